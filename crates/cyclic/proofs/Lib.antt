@@ -1,0 +1,9 @@
+pub mod Laws
+pub mod Registers
+pub mod Products
+pub mod Division
+pub mod Coefficients
+pub mod Bursts
+pub mod Theorems
+pub mod Worked
+pub mod Turns

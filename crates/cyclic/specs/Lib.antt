@@ -1,0 +1,4 @@
+pub mod Poly
+pub mod Generators
+pub mod Register
+pub mod Burst
