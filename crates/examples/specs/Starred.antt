@@ -1,0 +1,57 @@
+-- The starred examples of document 01, as rows of one table. Assumes nothing.
+use mathlib.Core.Path.{_≡_}
+use mathlib.Core.Bool.{Bool, true, false, _&&_, Bool·beq}
+use mathlib.Core.List.{List, [], _∷_, _++_}
+use Prim.Native.Nat.{ℕ, _-_}
+use lib.Dec.{eqb}
+use lib.IntN.{ℤ, pos, negsuc}
+use Rattle.bits.specs.Bits.{number, bits, zeros}
+use Rattle.bits.specs.Signed.{signedOf, isMinusZero}
+use Rattle.cyclic.specs.Generators.{generator16, generator24}
+use Rattle.cyclic.specs.Register.{check}
+
+-- What a row says.
+pub data Example : Type 0 where
+  -- of so many information bits only one is set, the last being 1, the last but one 2: their check bits as a number
+  checkIs : (generator : List Bool) (count fromEnd value : ℕ) → Example
+  -- the bits of a signed field: their number, and whether they are minus zero
+  signedIs : (field : List Bool) (value : ℤ) (minusZero : Bool) → Example
+
+abbrev pub onlyOne : ℕ → ℕ → List Bool
+onlyOne count fromEnd = zeros (count - fromEnd) ++ true ∷ zeros (fromEnd - 1)
+
+abbrev pub Says : Example → Type 0
+Says (checkIs g count fromEnd value) = number (check g (onlyOne count fromEnd)) ≡ value
+Says (signedIs p value minusZero) = (signedOf p ≡ value) × (isMinusZero p ≡ minusZero)
+
+-- The rows, in the order of document 01.
+abbrev pub rows : List Example
+rows =
+    checkIs generator16 234 1 0x6F63
+    ∷ checkIs generator16 234 2 0xDEC6
+    ∷ checkIs generator24 351 1 0x864CFB
+    ∷ checkIs generator24 351 2 0x8AD50D
+    ∷ signedIs (bits 5 0b11111) (negsuc 14) false
+    ∷ signedIs (bits 5 0b10000) (pos 0) true
+    ∷ signedIs (bits 9 0b111111111) (negsuc 254) false
+    ∷ []
+
+-- The test of a row, which the checker computes.
+abbrev pub sameInt : ℤ → ℤ → Bool
+sameInt (pos a) (pos b) = eqb a b
+sameInt (pos a) (negsuc b) = false
+sameInt (negsuc a) (pos b) = false
+sameInt (negsuc a) (negsuc b) = eqb a b
+
+abbrev pub holds : Example → Bool
+holds (checkIs g count fromEnd value) = eqb (number (check g (onlyOne count fromEnd))) value
+holds (signedIs p value minusZero) = sameInt (signedOf p) value && Bool·beq (isMinusZero p) minusZero
+
+abbrev pub allHold : List Example → Bool
+allHold [] = true
+allHold (e ∷ es) = holds e && allHold es
+
+-- Each row of a list.
+abbrev pub Each : (Example → Type 0) → List Example → Type 0
+Each P [] = Unit {0}
+Each P (e ∷ es) = P e × Each P es
