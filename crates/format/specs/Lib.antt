@@ -1,0 +1,5 @@
+pub mod Strings
+pub mod Standing
+pub mod Answers
+pub mod Listing
+pub mod Demand3
