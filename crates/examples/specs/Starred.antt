@@ -5,10 +5,13 @@ use mathlib.Core.List.{List, [], _∷_, _++_}
 use Prim.Native.Nat.{ℕ, _-_}
 use lib.Dec.{eqb}
 use lib.IntN.{ℤ, pos, negsuc}
-use Rattle.bits.specs.Bits.{number, bits, zeros}
+use lib.ListN.{length}
+use Rattle.bits.specs.Bits.{number, bits, zeros, recorded}
 use Rattle.bits.specs.Signed.{signedOf, isMinusZero}
 use Rattle.cyclic.specs.Generators.{generator16, generator24}
 use Rattle.cyclic.specs.Register.{check}
+use Rattle.format.specs.Answers.{listedCode, listAnswer}
+use Rattle.format.specs.Listing.{starts}
 
 -- What a row says.
 pub data Example : Type 0 where
@@ -16,6 +19,11 @@ pub data Example : Type 0 where
   checkIs : (generator : List Bool) (count fromEnd value : ℕ) → Example
   -- the bits of a signed field: their number, and whether they are minus zero
   signedIs : (field : List Bool) (value : ℤ) (minusZero : Bool) → Example
+  -- the listing of so many bits of these bytes into a list of so many entries: the number and the value that it answers
+  listingIs : (bytes : List ℕ) (count room number value : ℕ) → Example
+
+abbrev pub listingOf : List ℕ → ℕ → ℕ → ℕ × ℕ
+listingOf bytes count room = listedCode (listAnswer (length bytes) count room (length (starts (recorded bytes count))))
 
 abbrev pub onlyOne : ℕ → ℕ → List Bool
 onlyOne count fromEnd = zeros (count - fromEnd) ++ true ∷ zeros (fromEnd - 1)
@@ -23,8 +31,9 @@ onlyOne count fromEnd = zeros (count - fromEnd) ++ true ∷ zeros (fromEnd - 1)
 abbrev pub Says : Example → Type 0
 Says (checkIs g count fromEnd value) = number (check g (onlyOne count fromEnd)) ≡ value
 Says (signedIs p value minusZero) = (signedOf p ≡ value) × (isMinusZero p ≡ minusZero)
+Says (listingIs bytes count room number value) = (listingOf bytes count room .0 ≡ number) × (listingOf bytes count room .1 ≡ value)
 
--- The rows, in the order of document 01.
+-- The rows, in the order of document 01: 1 to 7, and the first half of 10.
 abbrev pub rows : List Example
 rows =
     checkIs generator16 234 1 0x6F63
@@ -34,6 +43,7 @@ rows =
     ∷ signedIs (bits 5 0b11111) (negsuc 14) false
     ∷ signedIs (bits 5 0b10000) (pos 0) true
     ∷ signedIs (bits 9 0b111111111) (negsuc 254) false
+    ∷ listingIs [] 0 0 0 0
     ∷ []
 
 -- The test of a row, which the checker computes.
@@ -46,6 +56,7 @@ sameInt (negsuc a) (negsuc b) = eqb a b
 abbrev pub holds : Example → Bool
 holds (checkIs g count fromEnd value) = eqb (number (check g (onlyOne count fromEnd))) value
 holds (signedIs p value minusZero) = sameInt (signedOf p) value && Bool·beq (isMinusZero p) minusZero
+holds (listingIs bytes count room number value) = eqb (listingOf bytes count room .0) number && eqb (listingOf bytes count room .1) value
 
 abbrev pub allHold : List Example → Bool
 allHold [] = true

@@ -1,1 +1,2 @@
-// The starred examples of document 01, proved of the definitions: `specs/Starred` has the rows, `proofs/Starred` the theorem. No code.
+// Examples, proved of the definitions. No code. The starred examples of document 01: `specs/Starred` has the rows, `proofs/Starred` the theorem.
+// Recordings that meet the premises of demand 3: `specs/Recordings` has their bytes, `proofs/Witnesses` the facts.

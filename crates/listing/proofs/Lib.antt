@@ -1,0 +1,5 @@
+pub mod Hits
+pub mod Marks
+pub mod Here
+pub mod Scanning
+pub mod Answering

@@ -1,0 +1,191 @@
+// Which string stands at a place of a recording, and the listing of a recording.
+use format::Limits;
+use format::Listed;
+use format::Refusal;
+ghost use mathlib.Core.Path.{_≡_};
+ghost use mathlib.Core.Bool.{true, cond};
+ghost use mathlib.Core.Logic.{_↔_};
+ghost use Prim.Native.Nat.{_+_, _*_, _^_, _<_, _≤_};
+ghost use lib.Dec.{ltb};
+ghost use lib.ListN.{length, set, take};
+ghost use Rattle.bits.specs.Bits.{unpack, recorded, cut, put};
+ghost use Rattle.cyclic.specs.Poly.{Divides};
+ghost use Rattle.cyclic.specs.Tables.{Table};
+ghost use Rattle.format.specs.Strings.{lengthOf, generatorOf};
+ghost use Rattle.format.specs.Standing.{standing};
+ghost use Rattle.format.specs.Listing.{starts};
+ghost use Rattle.format.specs.Answers.{bitLimit};
+ghost use Rattle.format.specs.Demand3.{ListPromise};
+ghost use Rattle.listing.specs.Search.{NextMark, MarkFree};
+
+// Whether the mark is at none of the 46 places of a window of 57 bits. Bit 56 - j of `hits` is 1 where the bits from place j on are the mark
+// 010111110001: each term is the window or its complement, moved so that the bit that it must match comes to that place.
+fn mark_free(window: u64) -> bool
+    requires { ⌜ window < 2 ^ 57 ⌝ }
+    ensures { λ r. ⌜ (r ≡ true) ↔ MarkFree window ⌝ }
+{
+    let w = window;
+    let n = !window;
+    let early = n & (w << 1) & (n << 2) & (w << 3) & (w << 4) & (w << 5);
+    let late = (w << 6) & (w << 7) & (n << 8) & (n << 9) & (n << 10) & (w << 11);
+    let hits = early & late;
+    (hits >> 11) % 0x4000_0000_0000 == 0
+}
+
+// The first place from `from` on with the mark, or the bit count, place by place.
+fn mark_from(rec: &[u8], count: usize, from: usize) -> usize
+    requires { ⌜ (count < 2 ^ 32) × (count ≤ 8 * length (now rec)) × (from ≤ count) ⌝ }
+    ensures { λ r. ⌜ NextMark (recorded (now (rec .entry)) count) from r ⌝ }
+{
+    let mut p = from;
+    while p + 12 <= count {
+        if bits::field(rec, p, 12) == 0x5F1 {
+            return p;
+        }
+        p += 1;
+    }
+    count
+}
+
+// The same, 46 places at a time where the mark is at none of them.
+pub fn next_mark(rec: &[u8], count: usize, from: usize) -> usize
+    requires { ⌜ (count < 2 ^ 32) × (count ≤ 8 * length (now rec)) × (from ≤ count) ⌝ }
+    ensures { λ r. ⌜ NextMark (recorded (now (rec .entry)) count) from r ⌝ }
+{
+    let mut p = from;
+    while p + 57 <= count {
+        let window = bits::field(rec, p, 57);
+        if !mark_free(window) {
+            return mark_from(rec, count, p);
+        }
+        p += 46;
+    }
+    mark_from(rec, count, p)
+}
+
+// The bits of a string of a type.
+fn length_of(kind: u64) -> usize
+    ensures { λ r. ⌜ r ≡ lengthOf kind ⌝ }
+{
+    if kind == 1 {
+        125
+    } else if kind == 2 {
+        375
+    } else {
+        250
+    }
+}
+
+// Whether the generator of a type divides the `count` bits from the place `offset`, by the tables of both.
+fn check_passes(
+    part: &[u8],
+    offset: usize,
+    count: usize,
+    kind: u64,
+    t16: &[u32],
+    t24: &[u32],
+) -> bool
+    requires { ⌜ (125 ≤ count) × (offset + count ≤ 8 * length (now part)) × (offset + count < 2 ^ 32) ⌝ }
+    requires { ⌜ Table 16 0x16F63 (now t16) × Table 24 0x1864CFB (now t24) ⌝ }
+    ensures { λ r. ⌜ (r ≡ true) ↔ Divides (generatorOf kind) (cut offset count (unpack (now (part .entry)))) ⌝ }
+{
+    if kind == 2 {
+        cyclic::table_divides(part, offset, count, t24, 0x1864CFB, 24)
+    } else {
+        cyclic::table_divides(part, offset, count, t16, 0x16F63, 16)
+    }
+}
+
+// The length of the string that stands at a place, or 0, from only the bytes that it covers: a part that starts at its byte, and a bit offset.
+pub fn standing(rec: &[u8], count: usize, place: usize, t16: &[u32], t24: &[u32]) -> usize
+    requires { ⌜ (count ≤ bitLimit) × (count ≤ 8 * length (now rec)) × (place ≤ count) ⌝ }
+    requires { ⌜ Table 16 0x16F63 (now t16) × Table 24 0x1864CFB (now t24) ⌝ }
+    ensures { λ r. ⌜ r ≡ standing (recorded (now (rec .entry)) count) place ⌝ }
+{
+    if count - place < 125 {
+        return 0;
+    }
+    let first = place / 8;
+    let offset = place % 8;
+    let part = &rec[first..];
+    let head = bits::field(part, offset, 18);
+    if head / 64 != 0x5F1 {
+        return 0;
+    }
+    let kind = head % 64;
+    let long = length_of(kind);
+    if count - place < long {
+        return 0;
+    }
+    let end = (offset + long + 7) / 8;
+    if check_passes(&part[0..end], offset, long, kind, t16, t24) {
+        long
+    } else {
+        0
+    }
+}
+
+// Puts a start at an index of the list, if that is below `room`.
+fn note(list: &mut [u32], index: usize, room: usize, start: u32)
+    requires { ⌜ room ≤ length (now list) ⌝ }
+    ensures { λ _. ⌜ now (list .exit) ≡ cond (ltb index room) (set (now (list .entry)) index start) (now (list .entry)) ⌝ }
+{
+    if index < room {
+        list[index] = start;
+    }
+}
+
+// How many starts the rule finds; the first of them, as many as `room`, go to the front of the list.
+fn scan(rec: &[u8], count: usize, list: &mut [u32], room: usize, t16: &[u32], t24: &[u32]) -> usize
+    requires { ⌜ (count ≤ bitLimit) × (count ≤ 8 * length (now rec)) × (room ≤ length (now list)) ⌝ }
+    requires { ⌜ Table 16 0x16F63 (now t16) × Table 24 0x1864CFB (now t24) ⌝ }
+    ensures found { λ r. ⌜ r ≡ length (starts (recorded (now (rec .entry)) count)) ⌝ }
+    ensures left { λ r. ⌜ now (list .exit) ≡ put 0 (take room (starts (recorded (now (rec .entry)) count))) (now (list .entry)) ⌝ }
+{
+    let mut found: usize = 0;
+    let mut p: usize = 0;
+    while p < count {
+        let long = standing(rec, count, p, t16, t24);
+        if long == 0 {
+            p = next_mark(rec, count, p + 1);
+        } else {
+            note(list, found, room, p as u32);
+            found += 1;
+            p += long;
+        }
+    }
+    found
+}
+
+// The listing of a recording whose bit count passes, by the tables of both generators. The starts are counted first only where the list
+// could be too short.
+fn list_with(rec: &[u8], count: usize, list: &mut [u32], t16: &[u32], t24: &[u32]) -> Listed
+    requires { ⌜ (count ≤ bitLimit) × (count ≤ 8 * length (now rec)) ⌝ }
+    requires { ⌜ Table 16 0x16F63 (now t16) × Table 24 0x1864CFB (now t24) ⌝ }
+    ensures { λ r. ⌜ ListPromise (now (rec .entry)) count (now (list .entry)) r (now (list .exit)) ⌝ }
+{
+    let room = list.len();
+    if count / 125 <= room {
+        return Listed::Starts(scan(rec, count, list, room, t16, t24));
+    }
+    let needed = scan(rec, count, list, 0, t16, t24);
+    if room < needed {
+        return Listed::Refused(Refusal::ListShort(needed));
+    }
+    Listed::Starts(scan(rec, count, list, room, t16, t24))
+}
+
+// Lists the starts of the strings in the first `count` bits of `rec`.
+pub fn list(rec: &[u8], count: usize, list: &mut [u32]) -> Listed
+    ensures { λ r. ⌜ ListPromise (now (rec .entry)) count (now (list .entry)) r (now (list .exit)) ⌝ }
+{
+    if count > Limits::BITS {
+        return Listed::Refused(Refusal::TooLong);
+    }
+    if (count + 7) / 8 > rec.len() {
+        return Listed::Refused(Refusal::BeyondBytes);
+    }
+    let t16 = cyclic::tables::table16();
+    let t24 = cyclic::tables::table24();
+    list_with(rec, count, list, &t16, &t24)
+}
