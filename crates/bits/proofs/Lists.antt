@@ -1,11 +1,11 @@
 -- The laws of `cut` and `put`, for lists of anything. Assumes nothing.
 use mathlib.Core.Path.{_≡_, refl, sym, ap, ap₂, _∙_}
-use mathlib.Core.List.{List, [], _∷_, _++_, append-assoc}
+use mathlib.Core.List.{List, [], _∷_, _++_, append-assoc, append-nil}
 use Prim.Native.Nat.{ℕ, zero, suc, _+_, _-_, _≤_, _<_}
 use native.Mathlib.Nat.{add-zero, zero-add, suc-add}
 use native.Mathlib.Omega.{arith}
-use lib.ListN.{length, length-append, length-take, length-drop, take, drop, getD, take-append-drop}
-use lib.Seq.{take-add, drop-drop, take-take, take-append-le, drop-append-le, take-at, drop-at, getD-take, getD-drop, drop-cons, take-length, length-take-le}
+use lib.ListN.{length, length-append, length-take, length-drop, take, drop, drop-of-length-le, getD, set, take-append-drop}
+use lib.Seq.{set-split, take-add, drop-drop, take-take, take-append-le, drop-append-le, take-at, drop-at, getD-take, getD-drop, drop-cons, take-length, length-take-le}
 use Rattle.bits.specs.Bits.{cut, put}
 
 module _ {A : Type 0} where
@@ -27,7 +27,7 @@ module _ {A : Type 0} where
   unfolding cut
   cut-split p m n l = take-add m n (drop p l) ∙ ap (λ (k : List A). take m (drop p l) ++ take n k) (drop-drop m p l)
 
-  drop-take : (o m : ℕ) (l : List A) → drop o (take (o + m) l) ≡ take m (drop o l)
+  pub drop-take : (o m : ℕ) (l : List A) → drop o (take (o + m) l) ≡ take m (drop o l)
   drop-take zero m l = ap (λ (k : ℕ). take k l) (zero-add m)
   drop-take (suc o) m [] = ap (λ (k : ℕ). drop (suc o) (take k [])) (suc-add o m) ∙ sym (nothing m)
     where
@@ -169,3 +169,20 @@ module _ {A : Type 0} where
       ∙ spread v
       ∙ sym (ap (put q v) (whole ∙ ap (λ (z : List A). x ++ (z ++ y)) cs ∙ spread m)
       ∙ put-at q v (x ++ a) m (b ++ y) (omega (arith, length-append x a)) lm)
+
+  -- a store is a put of one element
+  pub set-put : (l : List A) (i : ℕ) (x : A) → i < length l → set l i x ≡ put i (x ∷ []) l
+  unfolding put
+  set-put l i x h = let e : i + 1 ≡ suc i = omega arith in set-split l i x h ∙ ap (λ (k : ℕ). take i l ++ x ∷ drop k l) (sym e)
+
+  -- a put of one element more: it is stored, and the others are put behind it
+  pub put-cons : (i : ℕ) (x : A) (v l : List A) → i + length (x ∷ v) ≤ length l → put i (x ∷ v) l ≡ put (i + 1) v (set l i x)
+  put-cons i x v l h =
+      sym (ap (put (i + 1) v) (set-put l i x (omega arith)) ∙ put-join i (i + 1) (x ∷ []) v l refl (omega arith))
+
+  -- a whole list put in place of another
+  pub put-whole : (v l : List A) → length v ≡ length l → put 0 v l ≡ v
+  unfolding put
+  put-whole v l h =
+      let e : drop (0 + length v) l ≡ [] = drop-of-length-le l {i = 0 + length v} (omega arith) in
+      ap (λ (k : List A). v ++ k) e ∙ append-nil v

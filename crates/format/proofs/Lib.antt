@@ -4,3 +4,6 @@ pub mod Resync
 pub mod Damage
 pub mod Promise
 pub mod Sure
+pub mod Layouts
+pub mod Information
+pub mod Order

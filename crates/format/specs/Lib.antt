@@ -3,3 +3,7 @@ pub mod Standing
 pub mod Answers
 pub mod Listing
 pub mod Demand3
+pub mod Fields
+pub mod Types
+pub mod Records
+pub mod Reading

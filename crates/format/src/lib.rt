@@ -15,10 +15,39 @@ pub enum Refusal {
     NotZero,
 }
 
+// What a test or a reading answers: nothing is wrong, or why it is refused.
+pub enum Answer {
+    Done,
+    Refused(Refusal),
+}
+
 // What listing answers: how many starts it gave, or why it gave none.
 pub enum Listed {
     Starts(usize),
     Refused(Refusal),
+}
+
+// A string by its fields: the nine service fields (type, satellite number j, signal flag, data flag, call, attitude, correction code KP, A, and the time mark count
+// OMB), sixteen whole numbers for fields 10 on, the minus-zero mark, and raw bytes.
+pub struct Record {
+    pub kind: u8,
+    pub satellite: u8,
+    pub signal: u8,
+    pub validity: u8,
+    pub call: u8,
+    pub attitude: u8,
+    pub correction: u8,
+    pub next: u8,
+    pub time: u16,
+    pub numbers: [i64; 16],
+    pub minus: u16,
+    pub raw: [u8; 38],
+}
+
+// What reading answers, beside the record that it read; a blank record beside a refusal.
+pub struct Reading {
+    pub answer: Answer,
+    pub content: Record,
 }
 
 // The limits of a recording.
