@@ -10,17 +10,12 @@ use lib.ListN.{length, length-append, length-take, take, drop, set}
 use lib.Seq.{take-nil, take-all, take-append-le, set-split}
 use borrow.Author.Tests.{lt-ltb, le-ltb}
 use Rattle.bits.specs.Bits.{put}
-use Rattle.bits.proofs.Lists.{put-none, put-join, length-put}
+use Rattle.bits.proofs.Lists.{put-none, put-join, set-put, length-put}
 use Rattle.format.specs.Standing.{standing}
 use Rattle.format.specs.Listing.{starts}
 use Rattle.format.proofs.Agree.{standing-stands, none-stands}
 use Rattle.format.proofs.Rule.{listFrom, list-all, list-end, list-none, list-here, list-skip, few}
 use Rattle.listing.specs.Search.{MarkAt, NextMark}
-
--- a store is a put of one element
-set-put : (l : List ℕ) (i x : ℕ) → i < length l → set l i x ≡ put i (x ∷ []) l
-unfolding put
-set-put l i x h = let e : i + 1 ≡ suc i = omega arith in set-split l i x h ∙ ap (λ (k : ℕ). take i l ++ x ∷ drop k l) (sym e)
 
 module _ (u : List Bool) (before : List ℕ) (room : ℕ) where
   -- the scan has come to the place p: what it listed, how many, and what the list holds

@@ -64,7 +64,7 @@ pub fn next_mark(rec: &[u8], count: usize, from: usize) -> usize
 }
 
 // The bits of a string of a type.
-fn length_of(kind: u64) -> usize
+pub fn length_of(kind: u64) -> usize
     ensures { λ r. ⌜ r ≡ lengthOf kind ⌝ }
 {
     if kind == 1 {
