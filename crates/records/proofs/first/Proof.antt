@@ -1,0 +1,19 @@
+-- `records::first`: by whether the first passes. Assumes nothing.
+use borrow.Author.Needs.{needs}
+use Rattle.format.specs.Answers.{_then_}
+use Rattle.records.proofs.first.Statement.{statement}
+use Rattle.records.proofs.first.Tie as tie
+
+is-done-requires : tie.Need-is-done-requires
+is-done-requires c κs = search needs
+
+returns : tie.Need-returns
+unfolding _then_
+returns c = search needs
+
+returns-2 : tie.Need-returns-2
+unfolding _then_
+returns-2 c = search needs
+
+pub first-spec : {M : Type 1} → statement M
+first-spec = tie.close (tie.spec is-done-requires returns returns-2)

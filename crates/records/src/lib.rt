@@ -1,0 +1,114 @@
+// The table of the types' fields, and the tests of a record.
+pub mod rows;
+
+use format::Answer;
+use format::Record;
+use format::Refusal;
+ghost use mathlib.Core.Path.{_≡_};
+ghost use mathlib.Core.Bool.{cond, not, _&&_};
+ghost use lib.Dec.{eqb, leb};
+ghost use Rattle.format.specs.declared.Answer.the-variants.{Refused};
+ghost use Rattle.format.specs.declared.Refusal.the-variants.{OutOfRange, OtherOrbit};
+ghost use Rattle.format.specs.Answers.{isDone, when, _then_};
+ghost use Rattle.format.specs.Records.{ranges, numbersOf, isZero, fieldTests};
+ghost use Rattle.format.specs.Types.{information, fieldsOf};
+ghost use Rattle.records.specs.Rows.{takes};
+
+// Whether an answer is no refusal.
+pub fn is_done(a: Answer) -> bool
+    ensures { λ r. ⌜ r ≡ isDone a ⌝ }
+{
+    match a {
+        Answer::Done => true,
+        Answer::Refused(_) => false,
+    }
+}
+
+// The first of two tests that refuses.
+pub fn first(a: Answer, b: Answer) -> Answer
+    ensures { λ r. ⌜ r ≡ (a then b) ⌝ }
+{
+    if is_done(a) { b } else { a }
+}
+
+// Whether a field takes a number: of width 0, a place that its type does not use, it takes any.
+fn in_range(width: u8, least: i64, most: i64, v: i64) -> bool
+    ensures { λ r. ⌜ r ≡ takes width least most v ⌝ }
+{
+    if width == 0 {
+        return true;
+    }
+    if least <= v {
+        return v <= most;
+    }
+    false
+}
+
+// The first of fields 10 on that is out of range.
+fn number_ranges(kind: u8, numbers: [i64; 16]) -> Answer
+    ensures { λ a. ⌜ a ≡ ranges (information kind) numbers 10 ⌝ }
+{
+    let row = rows::row_of(kind);
+    let widths = row.widths;
+    let least = row.least;
+    let most = row.most;
+    let mut i: usize = 0;
+    while i < 16 {
+        if !in_range(widths[i], least[i], most[i], numbers[i]) {
+            return Answer::Refused(Refusal::OutOfRange(10 + i));
+        }
+        i += 1;
+    }
+    Answer::Done
+}
+
+// What the fields past this one answer, if its number is from low to high; else that it is out of range.
+fn limit(field: usize, v: u16, low: u16, high: u16, past: Answer) -> Answer
+    ensures { λ a. ⌜ a ≡ cond (leb low v && leb v high) past (Refused (OutOfRange field)) ⌝ }
+{
+    if low <= v {
+        if v <= high {
+            return past;
+        }
+    }
+    Answer::Refused(Refusal::OutOfRange(field))
+}
+
+// The first of all fields that is out of range, found from the last to the first.
+fn all_ranges(r: Record) -> Answer
+    ensures { λ a. ⌜ a ≡ ranges (fieldsOf (r .kind)) (numbersOf r) 1 ⌝ }
+{
+    let numbers = r.numbers;
+    let from10 = number_ranges(r.kind, numbers);
+    let from9 = limit(9, r.time, 0, 43199, from10);
+    let from8 = limit(8, r.next as u16, 0, 1, from9);
+    let from7 = limit(7, r.correction as u16, 0, 3, from8);
+    let from6 = limit(6, r.attitude as u16, 0, 1, from7);
+    let from5 = limit(5, r.call as u16, 0, 15, from6);
+    let from4 = limit(4, r.validity as u16, 0, 1, from5);
+    let from3 = limit(3, r.signal as u16, 0, 1, from4);
+    let from2 = limit(2, r.satellite as u16, 1, 63, from3);
+    limit(1, r.kind as u16, 0, 63, from2)
+}
+
+// Type 20 is read and written for orbit 00 only.
+fn orbit_test(kind: u8, orbit: i64) -> Answer
+    ensures { λ a. ⌜ a ≡ when (eqb kind 20 && not (isZero orbit)) OtherOrbit ⌝ }
+{
+    if kind == 20 {
+        if orbit != 0 {
+            return Answer::Refused(Refusal::OtherOrbit);
+        }
+    }
+    Answer::Done
+}
+
+// The tests of a record's fields: 7, then 8.
+pub fn field_tests(r: Record) -> Answer
+    ensures { λ a. ⌜ a ≡ fieldTests r ⌝ }
+{
+    let numbers = r.numbers;
+    let ranges = all_ranges(r);
+    let orbit = orbit_test(r.kind, numbers[0]);
+    first(ranges, orbit)
+}
