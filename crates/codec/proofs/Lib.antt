@@ -1,0 +1,5 @@
+pub mod Decoding
+pub mod Service
+pub mod Refusing
+pub mod Whole
+pub mod Chain
