@@ -1,0 +1,68 @@
+-- `list::main`: what is printed fits the buffer. Assumes nothing.
+use mathlib.Core.List.{List}
+use mathlib.Core.Path.{_≡_}
+use Prim.Native.Nat.{ℕ, _≤_}
+use native.Mathlib.Omega.{arith}
+use lib.ListN.{length, length-take, length-replicate}
+use borrow.Author.Needs.{needs}
+use Rattle.text.specs.Text.{Wrote}
+use Rattle.text.proofs.Writing.{wrote-length}
+use Rattle.report.proofs.Found.{report-length}
+use Rattle.list.proofs.main.Statement.{statement}
+use Rattle.list.proofs.main.Tie as tie
+
+fits : {text before after : List ℕ} {next room : ℕ} → Wrote text 0 before after next → length text ≤ room → length before ≡ room → next ≤ length after
+fits w h l = omega (arith, w .placed, wrote-length w (omega (arith, w .placed)))
+
+slice-aggregate-read-full : tie.Need-slice-aggregate-read-full
+slice-aggregate-read-full c = search needs
+
+read-full-requires : tie.Need-read-full-requires
+read-full-requires c κs = search needs
+
+sub-report : tie.Need-sub-report
+sub-report c = search needs
+
+part-report-start : tie.Need-part-report-start
+part-report-start c = search needs
+
+part-report-end : tie.Need-part-report-end
+part-report-end c = search needs
+
+slice-aggregate-report : tie.Need-slice-aggregate-report
+slice-aggregate-report c = search needs
+
+report-requires : tie.Need-report-requires
+report-requires c κs = (simp length-take (omega arith), simp length-replicate (omega arith))
+
+sub-write-all : tie.Need-sub-write-all
+sub-write-all c = search needs
+
+part-write-all-start : tie.Need-part-write-all-start
+part-write-all-start c = search needs
+
+part-write-all-end : tie.Need-part-write-all-end
+part-write-all-end c = fits (c .before .before .report .ensures) (report-length _) (length-replicate {A = ℕ} 324000 0)
+
+write-all-requires : tie.Need-write-all-requires
+write-all-requires c κs = search needs
+
+returns : tie.Need-returns
+returns c = search needs
+
+pub main-spec : {M : Type 1} → statement M
+main-spec =
+    tie.close
+    (tie.spec
+    slice-aggregate-read-full
+    read-full-requires
+    sub-report
+    part-report-start
+    part-report-end
+    slice-aggregate-report
+    report-requires
+    sub-write-all
+    part-write-all-start
+    part-write-all-end
+    write-all-requires
+    returns)

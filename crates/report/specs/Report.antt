@@ -1,0 +1,43 @@
+-- The text that the program `list` prints (document 01, "Starred and plain examples"). Assumes nothing.
+use mathlib.Core.Bool.{Bool, cond}
+use mathlib.Core.List.{List, [], _∷_, _++_}
+use Prim.Native.Nat.{ℕ, _*_}
+use lib.Dec.{ltb}
+use lib.ListN.{length}
+use Rattle.bits.specs.Bits.{number, recorded}
+use Rattle.format.specs.Answers.{answerCode, bitLimit}
+use Rattle.format.specs.Listing.{starts}
+use Rattle.format.specs.Reading.{reading}
+use Rattle.format.specs.Strings.{stringBits, typeAt}
+use Rattle.text.specs.Text.{row}
+
+-- "place,type,number,kp,a,omb,result" and a newline.
+abbrev pub header : List ℕ
+header =
+    112 ∷ 108 ∷ 97 ∷ 99 ∷ 101 ∷ 44 ∷ 116 ∷ 121 ∷ 112 ∷ 101 ∷ 44 ∷ 110 ∷ 117 ∷ 109 ∷ 98 ∷ 101 ∷ 114 ∷ 44 ∷ 107 ∷ 112 ∷ 44 ∷ 97 ∷ 44 ∷ 111 ∷ 109 ∷ 98 ∷ 44 ∷ 114
+    ∷ 101 ∷ 115 ∷ 117 ∷ 108 ∷ 116 ∷ 10 ∷ []
+
+-- "refused,1" and a newline.
+abbrev pub refusedLine : List ℕ
+refusedLine = 114 ∷ 101 ∷ 102 ∷ 117 ∷ 115 ∷ 101 ∷ 100 ∷ 44 ∷ 49 ∷ 10 ∷ []
+
+-- The bits of all bytes.
+abbrev pub allBits : List ℕ → List Bool
+allBits bytes = recorded bytes (8 * length bytes)
+
+-- The line of a start: the place; type, j, KP, A and OMB straight from the bits; and reading's number, 0 if read.
+unfoldable pub line : List ℕ → ℕ → List ℕ
+line bytes place =
+    row (
+    place ∷ typeAt (allBits bytes) place ∷ number (stringBits (allBits bytes) place 19 24) ∷ number (stringBits (allBits bytes) place 32 33)
+    ∷ number (stringBits (allBits bytes) place 34 34) ∷ number (stringBits (allBits bytes) place 35 50)
+    ∷ answerCode (reading bytes (8 * length bytes) place .answer) .0 ∷ [])
+
+-- A line for each start.
+unfoldable pub lines : List ℕ → List ℕ → List ℕ
+lines bytes [] = []
+lines bytes (p ∷ ps) = line bytes p ++ lines bytes ps
+
+-- All that `list` prints for these bytes on its standard input: above the limit the refusal only, else the header and a line for each start that listing gives.
+unfoldable pub report : List ℕ → List ℕ
+report bytes = cond (ltb bitLimit (8 * length bytes)) refusedLine (header ++ lines bytes (starts (allBits bytes)))

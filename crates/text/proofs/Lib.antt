@@ -1,0 +1,3 @@
+pub mod Numerals
+pub mod Writing
+pub mod Worked
