@@ -2,15 +2,21 @@
 use mathlib.Core.Path.{_≡_, refl, ap}
 use mathlib.Core.Bool.{Bool, true, false, _&&_, Bool·beq, false≢true}
 use mathlib.Core.List.{List, [], _∷_}
+use Prim.Native.Nat.{ℕ}
 use lib.IntN.{ℤ, pos, negsuc}
 use lib.Dec.{eqb}
 use borrow.Author.Tests.{eqb-true}
-use Rattle.bits.specs.Bits.{number, recorded}
+use Rattle.bits.specs.Bits.{number, recorded, cut}
 use Rattle.bits.specs.Signed.{signedOf, isMinusZero}
 use Rattle.cyclic.specs.Register.{check, remainder}
-use Rattle.format.specs.Answers.{listAnswer}
+use Rattle.format.specs.Answers.{answerCode, when, _then_, listAnswer}
+use Rattle.format.specs.Fields.{inRange}
+use Rattle.format.specs.Reading.{reading, placeTests, stringTests, recordAt}
+use Rattle.format.specs.Records.{fieldTests, ranges}
+use Rattle.format.specs.Strings.{stringBits, typeAt}
+use Rattle.format.specs.Types.{information}
 use Rattle.format.specs.Listing.{scan, starts}
-use Rattle.examples.specs.Starred.{Example, checkIs, signedIs, listingIs, listingOf, onlyOne, Says, rows, sameInt, holds, allHold, Each}
+use Rattle.examples.specs.Starred.{Example, checkIs, signedIs, listingIs, testIs, readingIs, listingOf, readingOf, onlyOne, Says, rows, sameInt, holds, allHold, Each}
 
 and-left : (a b : Bool) → a && b ≡ true → a ≡ true
 and-left true b e = refl
@@ -32,6 +38,9 @@ same-bool true false e = absurd (false≢true e)
 same-bool false true e = absurd (false≢true e)
 same-bool false false e = refl
 
+both : (a b c d : ℕ) → eqb a b && eqb c d ≡ true → (a ≡ b) × (c ≡ d)
+both a b c d t = (eqb-true a b (and-left (eqb a b) (eqb c d) t), eqb-true c d (and-right (eqb a b) (eqb c d) t))
+
 -- a row that passes its test says the truth
 sound : (e : Example) → holds e ≡ true → Says e
 sound (checkIs g count fromEnd value) t = eqb-true (number (check g (onlyOne count fromEnd))) value t
@@ -39,17 +48,16 @@ sound (signedIs p value minusZero) t =
     let a = sameInt (signedOf p) value in
     let b = Bool·beq (isMinusZero p) minusZero in
     (same-int (signedOf p) value (and-left a b t), same-bool (isMinusZero p) minusZero (and-right a b t))
-sound (listingIs bytes count room number value) t =
-    let a = eqb (listingOf bytes count room .0) number in
-    let b = eqb (listingOf bytes count room .1) value in
-    (eqb-true (listingOf bytes count room .0) number (and-left a b t), eqb-true (listingOf bytes count room .1) value (and-right a b t))
+sound (listingIs bytes count room number value) t = both (listingOf bytes count room .0) number (listingOf bytes count room .1) value t
+sound (testIs r number value) t = both (answerCode (fieldTests r) .0) number (answerCode (fieldTests r) .1) value t
+sound (readingIs bytes count place number value) t = both (readingOf bytes count place .0) number (readingOf bytes count place .1) value t
 
 all-sound : (es : List Example) → allHold es ≡ true → Each Says es
 all-sound [] t = tt
 all-sound (e ∷ es) t = (sound e (and-left (holds e) (allHold es) t), all-sound es (and-right (holds e) (allHold es) t))
 
 test : allHold rows ≡ true
-unfolding check remainder listAnswer recorded starts scan
+unfolding check remainder listAnswer recorded starts scan fieldTests ranges inRange information when _then_ reading placeTests stringTests recordAt stringBits cut typeAt
 test = refl
 
 -- Every starred example holds.

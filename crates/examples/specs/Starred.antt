@@ -5,13 +5,16 @@ use mathlib.Core.List.{List, [], _∷_, _++_}
 use Prim.Native.Nat.{ℕ, _-_}
 use lib.Dec.{eqb}
 use lib.IntN.{ℤ, pos, negsuc}
-use lib.ListN.{length}
+use lib.ListN.{length, replicate}
 use Rattle.bits.specs.Bits.{number, bits, zeros, recorded}
 use Rattle.bits.specs.Signed.{signedOf, isMinusZero}
 use Rattle.cyclic.specs.Generators.{generator16, generator24}
 use Rattle.cyclic.specs.Register.{check}
-use Rattle.format.specs.Answers.{listedCode, listAnswer}
+use Rattle.format.specs.declared.Record.{Record}
+use Rattle.format.specs.Answers.{answerCode, listedCode, listAnswer}
 use Rattle.format.specs.Listing.{starts}
+use Rattle.format.specs.Reading.{reading}
+use Rattle.format.specs.Records.{fieldTests}
 
 -- What a row says.
 pub data Example : Type 0 where
@@ -21,9 +24,34 @@ pub data Example : Type 0 where
   signedIs : (field : List Bool) (value : ℤ) (minusZero : Bool) → Example
   -- the listing of so many bits of these bytes into a list of so many entries: the number and the value that it answers
   listingIs : (bytes : List ℕ) (count room number value : ℕ) → Example
+  -- the test of a record's fields, and the reading at a place: the number and the value that it answers
+  testIs : (content : Record) (number value : ℕ) → Example
+  readingIs : (bytes : List ℕ) (count place number value : ℕ) → Example
 
 abbrev pub listingOf : List ℕ → ℕ → ℕ → ℕ × ℕ
 listingOf bytes count room = listedCode (listAnswer (length bytes) count room (length (starts (recorded bytes count))))
+
+abbrev pub readingOf : List ℕ → ℕ → ℕ → ℕ × ℕ
+readingOf bytes count place = answerCode (reading bytes count place .answer)
+
+-- A record of type 10 with these tb and OMB, all other fields at their least.
+abbrev pub ephemeris : ℕ → ℕ → Record
+ephemeris tb omb =
+    record {
+      kind = 10;
+      satellite = 1;
+      signal = 0;
+      validity = 0;
+      call = 0;
+      attitude = 0;
+      correction = 0;
+      next = 0;
+      time = omb;
+      numbers =
+          pos 1 ∷ pos 1 ∷ pos 0 ∷ pos 0 ∷ pos tb ∷ pos 1 ∷ pos 1 ∷ pos 0 ∷ pos 0 ∷ pos 0 ∷ pos 0 ∷ pos 0 ∷ pos 0 ∷ pos 0 ∷ pos 0 ∷ pos 0 ∷ [];
+      minus = 0;
+      raw = replicate 38 0;
+    }
 
 abbrev pub onlyOne : ℕ → ℕ → List Bool
 onlyOne count fromEnd = zeros (count - fromEnd) ++ true ∷ zeros (fromEnd - 1)
@@ -32,8 +60,10 @@ abbrev pub Says : Example → Type 0
 Says (checkIs g count fromEnd value) = number (check g (onlyOne count fromEnd)) ≡ value
 Says (signedIs p value minusZero) = (signedOf p ≡ value) × (isMinusZero p ≡ minusZero)
 Says (listingIs bytes count room number value) = (listingOf bytes count room .0 ≡ number) × (listingOf bytes count room .1 ≡ value)
+Says (testIs r number value) = (answerCode (fieldTests r) .0 ≡ number) × (answerCode (fieldTests r) .1 ≡ value)
+Says (readingIs bytes count place number value) = (readingOf bytes count place .0 ≡ number) × (readingOf bytes count place .1 ≡ value)
 
--- The rows, in the order of document 01: 1 to 7, and the first half of 10.
+-- The rows, in the order of document 01, 1 to 10; 8, 9 and 10 take two rows each.
 abbrev pub rows : List Example
 rows =
     checkIs generator16 234 1 0x6F63
@@ -43,7 +73,12 @@ rows =
     ∷ signedIs (bits 5 0b11111) (negsuc 14) false
     ∷ signedIs (bits 5 0b10000) (pos 0) true
     ∷ signedIs (bits 9 0b111111111) (negsuc 254) false
+    ∷ testIs (ephemeris 959 0) 0 0
+    ∷ testIs (ephemeris 960 0) 7 14
+    ∷ testIs (ephemeris 0 43199) 0 0
+    ∷ testIs (ephemeris 0 43200) 7 9
     ∷ listingIs [] 0 0 0 0
+    ∷ readingIs [] 0 0 5 0
     ∷ []
 
 -- The test of a row, which the checker computes.
@@ -57,6 +92,8 @@ abbrev pub holds : Example → Bool
 holds (checkIs g count fromEnd value) = eqb (number (check g (onlyOne count fromEnd))) value
 holds (signedIs p value minusZero) = sameInt (signedOf p) value && Bool·beq (isMinusZero p) minusZero
 holds (listingIs bytes count room number value) = eqb (listingOf bytes count room .0) number && eqb (listingOf bytes count room .1) value
+holds (testIs r number value) = eqb (answerCode (fieldTests r) .0) number && eqb (answerCode (fieldTests r) .1) value
+holds (readingIs bytes count place number value) = eqb (readingOf bytes count place .0) number && eqb (readingOf bytes count place .1) value
 
 abbrev pub allHold : List Example → Bool
 allHold [] = true

@@ -1,0 +1,15 @@
+-- The text that the program `cuts` prints. Assumes nothing.
+use mathlib.Core.List.{List, [], _∷_, _++_}
+use Prim.Native.Nat.{ℕ, zero, suc}
+use Rattle.format.specs.Answers.{answerCode}
+use Rattle.format.specs.Reading.{reading}
+use Rattle.text.specs.Text.{row}
+
+-- The line of a bit count: the count, and reading's number at place 0 with it.
+unfoldable pub cut : List ℕ → ℕ → List ℕ
+cut bytes count = row (count ∷ answerCode (reading bytes count 0 .answer) .0 ∷ [])
+
+-- The lines of the first counts, from 0 on.
+unfoldable pub cuts : List ℕ → ℕ → List ℕ
+cuts bytes zero = []
+cuts bytes (suc count) = cuts bytes count ++ cut bytes count

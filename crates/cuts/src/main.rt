@@ -1,0 +1,40 @@
+// Document 01's plain example 12: reads the string at the start of its standard input with every bit count up to its length, and prints
+// each count with reading's number.
+ghost use Prim.Native.Nat.{_+_, _*_, _≤_};
+ghost use lib.ListN.{length};
+ghost use Rattle.text.specs.Text.{Wrote};
+ghost use Rattle.cuts.specs.Cuts.{cut, cuts};
+
+// Puts the line of a bit count at a place of the buffer, and answers the place after it.
+fn put_cut(rec: &[u8], count: usize, out: &mut [u8], at: usize) -> usize
+    requires { ⌜ (count ≤ 250) × (at + 22 ≤ length (now out)) ⌝ }
+    ensures { λ r. ⌜ Wrote (cut (now (rec .entry)) count) at (now (out .entry)) (now (out .exit)) r ⌝ }
+{
+    let reading = codec::read(rec, count, 0);
+    let answer = reading.answer;
+    let number = report::answer_number(answer);
+    let next = text::put_number(out, at, count as u32, b',');
+    text::put_number(out, next, number, b'\n')
+}
+
+// Puts a line for each bit count from 0 to 250 at the front of the buffer, and answers the place after them.
+fn put_cuts(rec: &[u8], out: &mut [u8]) -> usize
+    requires { ⌜ 22 * 251 ≤ length (now out) ⌝ }
+    ensures { λ r. ⌜ (r ≤ 22 * 251) × Wrote (cuts (now (rec .entry)) 251) 0 (now (out .entry)) (now (out .exit)) r ⌝ }
+{
+    let mut at: usize = 0;
+    let mut count: usize = 0;
+    while count <= 250 {
+        at = put_cut(rec, count, out, at);
+        count += 1;
+    }
+    at
+}
+
+fn main() {
+    let mut rec = [0u8; 32];
+    let n = io::read_full(0, &mut rec);
+    let mut out = [0u8; 5522];
+    let m = put_cuts(&rec[0..n], &mut out);
+    io::write_all(1, &out[0..m]);
+}
