@@ -1,3 +1,4 @@
 pub mod Starred
 pub mod Tests
 pub mod Witnesses
+pub mod Writable

@@ -6,6 +6,8 @@ use Rattle.format.specs.declared.Refusal.{Refusal}
 use Rattle.format.specs.declared.Refusal.the-variants.{TooLong, BeyondBytes, BeyondCount, NoMark, RunsOut, CheckFails, OutOfRange, OtherOrbit, ListShort, MinusZero, NotZero}
 use Rattle.format.specs.declared.Answer.{Answer}
 use Rattle.format.specs.declared.Answer.the-variants.{Done, Refused}
+use Rattle.format.specs.declared.Written.{Written}
+use Rattle.format.specs.declared.Written.the-variants.{Upto, Refused as NotWritten}
 use Rattle.format.specs.declared.Listed.{Listed}
 use Rattle.format.specs.declared.Listed.the-variants.{Starts, Refused as NotListed}
 
@@ -32,6 +34,11 @@ answerCode (Refused r) = refusalCode r
 abbrev pub listedCode : Listed → ℕ × ℕ
 listedCode (Starts count) = (0, count)
 listedCode (NotListed r) = refusalCode r
+
+-- Writing answers 0 and the place after the string, or a refusal.
+abbrev pub writtenCode : Written → ℕ × ℕ
+writtenCode (Upto place) = (0, place)
+writtenCode (NotWritten r) = refusalCode r
 
 -- The most bits that a recording may have.
 abbrev pub bitLimit : ℕ

@@ -1,12 +1,12 @@
 -- Fields: what their bits stand for, and their ranges (document 01, "Information fields"). Assumes nothing.
 use mathlib.Core.Bool.{Bool, true, false, _&&_}
-use mathlib.Core.List.{List, [], _∷_}
+use mathlib.Core.List.{List, [], _∷_, _++_}
 use Prim.Native.Nat.{ℕ, _+_, _-_, _^_}
-use lib.IntN.{ℤ, pos, negℤ}
+use lib.IntN.{ℤ, pos, negℤ, natAbs}
 use lib.ListN.{take, drop}
 use lib.Signed.{leZ}
-use Rattle.bits.specs.Bits.{number}
-use Rattle.bits.specs.Signed.{signedOf, isMinusZero}
+use Rattle.bits.specs.Bits.{number, bits}
+use Rattle.bits.specs.Signed.{signedOf, isMinusZero, signMagnitude}
 
 -- A field: unsigned, of a width, with its range; signed, of a width, which takes all that its width holds; and a place that a type does not
 -- use. A power of k means that one count is 2 ^ -k, and 0 that the field has no power.
@@ -50,6 +50,12 @@ marked (unsigned w a b k) p = false
 marked (signed w k) p = isMinusZero p
 marked absent p = false
 
+-- The bits of a number in a field, with a mark where it is minus zero.
+abbrev pub code : Field → ℤ → Bool → List Bool
+code (unsigned w a b k) v m = bits w (natAbs v)
+code (signed w k) v m = signMagnitude w v m
+code absent v m = []
+
 -- ---- fields one after another
 
 -- Their bits in all.
@@ -65,3 +71,10 @@ values (f ∷ fs) p = value f (take (width f) p) ∷ values fs (drop (width f) p
 unfoldable pub minusZeros : List Field → List Bool → List Bool
 minusZeros [] p = []
 minusZeros (f ∷ fs) p = marked f (take (width f) p) ∷ minusZeros fs (drop (width f) p)
+
+-- The bits of their numbers.
+unfoldable pub codes : List Field → List ℤ → List Bool → List Bool
+codes [] vs ms = []
+codes (f ∷ fs) [] ms = []
+codes (f ∷ fs) (v ∷ vs) [] = []
+codes (f ∷ fs) (v ∷ vs) (m ∷ ms) = code f v m ++ codes fs vs ms

@@ -7,3 +7,4 @@ pub mod Fields
 pub mod Types
 pub mod Records
 pub mod Reading
+pub mod Writing

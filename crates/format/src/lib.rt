@@ -50,6 +50,12 @@ pub struct Reading {
     pub content: Record,
 }
 
+// What writing answers: the place after the string that it wrote, or why it wrote none.
+pub enum Written {
+    Upto(usize),
+    Refused(Refusal),
+}
+
 // The limits of a recording.
 pub struct Limits {}
 
