@@ -2,10 +2,10 @@
 ghost use mathlib.Core.Path.{_≡_};
 ghost use mathlib.Core.Bool.{false};
 ghost use Prim.Native.Nat.{ℕ, _+_, _-_, _*_, _/_, _%_, _^_, _<_, _≤_};
-ghost use lib.ListN.{length, getD};
+ghost use lib.ListN.{length, getD, drop};
 ghost use lib.IntN.{natAbs};
 ghost use Rattle.bits.specs.Bits.{number, bits, unpack, cut, put, bytesFor, pack};
-ghost use Rattle.bits.specs.Signed.{signedOf, isMinusZero, signMagnitude};
+ghost use Rattle.bits.specs.Signed.{signedOf, allZero, isMinusZero, signMagnitude};
 
 // A byte as a wide number.
 fn wide(x: u8) -> u64
@@ -162,4 +162,26 @@ pub fn sign_magnitude(value: i64, minus: bool, width: usize) -> u64
         return (1 << (width - 1)) | magnitude;
     }
     magnitude
+}
+
+// Whether no bit from a place on is one.
+pub fn zero_from(part: &[u8], from: usize) -> bool
+    requires { ⌜ from ≤ 8 * length (now part) ⌝ }
+    ensures { λ r. ⌜ r ≡ allZero (drop from (unpack (now (part .entry)))) ⌝ }
+{
+    let first = from / 8;
+    if first == part.len() {
+        return true;
+    }
+    if low(wide(part[first]), 8 - from % 8) != 0 {
+        return false;
+    }
+    let mut i = first + 1;
+    while i < part.len() {
+        if wide(part[i]) != 0 {
+            return false;
+        }
+        i += 1;
+    }
+    true
 }

@@ -5,13 +5,14 @@ use format::Answer;
 use format::Record;
 use format::Refusal;
 ghost use mathlib.Core.Path.{_≡_};
-ghost use mathlib.Core.Bool.{cond, not, _&&_};
+ghost use mathlib.Core.Bool.{cond, not, _&&_, _||_};
 ghost use lib.Dec.{eqb, leb};
+ghost use Rattle.bits.specs.Bits.{odd};
 ghost use Rattle.format.specs.declared.Answer.the-variants.{Refused};
-ghost use Rattle.format.specs.declared.Refusal.the-variants.{OutOfRange, OtherOrbit};
+ghost use Rattle.format.specs.declared.Refusal.the-variants.{OutOfRange, OtherOrbit, NotZero};
 ghost use Rattle.format.specs.Answers.{isDone, when, _then_};
-ghost use Rattle.format.specs.Records.{ranges, numbersOf, isZero, fieldTests};
-ghost use Rattle.format.specs.Types.{information, fieldsOf};
+ghost use Rattle.format.specs.Records.{ranges, numbersOf, isZero, fieldTests, unused, stray, markBits, recordTests};
+ghost use Rattle.format.specs.Types.{places, information, fieldsOf};
 ghost use Rattle.records.specs.Rows.{takes};
 
 // Whether an answer is no refusal.
@@ -111,4 +112,90 @@ pub fn field_tests(r: Record) -> Answer
     let ranges = all_ranges(r);
     let orbit = orbit_test(r.kind, numbers[0]);
     first(ranges, orbit)
+}
+
+// Whether a number that is not 0 is at a place that is not used, one of width 0.
+fn misplaced(width: u8, v: i64) -> bool
+    ensures { λ b. ⌜ b ≡ eqb width 0 && not (isZero v) ⌝ }
+{
+    if width == 0 { v != 0 } else { false }
+}
+
+// Whether a place that the type does not use is not 0.
+fn unused(kind: u8, numbers: [i64; 16]) -> bool
+    ensures { λ b. ⌜ b ≡ unused (information kind) numbers ⌝ }
+{
+    let row = rows::row_of(kind);
+    let widths = row.widths;
+    let mut i: usize = 0;
+    while i < 16 {
+        if misplaced(widths[i], numbers[i]) {
+            return true;
+        }
+        i += 1;
+    }
+    false
+}
+
+// Whether a number may bear the mark.
+fn bears(signed: bool, v: i64) -> bool
+    ensures { λ b. ⌜ b ≡ signed && isZero v ⌝ }
+{
+    if signed { v == 0 } else { false }
+}
+
+// Whether the lowest mark is on a number that may not bear it.
+fn strays(marks: u16, signed: bool, v: i64) -> bool
+    ensures { λ b. ⌜ b ≡ odd marks && not (signed && isZero v) ⌝ }
+{
+    if marks % 2 == 1 {
+        !bears(signed, v)
+    } else {
+        false
+    }
+}
+
+// The lowest bit of the minus-zero mark on a number that is not a signed field's zero.
+fn stray(kind: u8, numbers: [i64; 16], minus: u16) -> Answer
+    ensures { λ a. ⌜ a ≡ stray (information kind) numbers (markBits places minus) 0 ⌝ }
+{
+    let row = rows::row_of(kind);
+    let signs = row.signed;
+    let mut marks = minus;
+    let mut i: usize = 0;
+    while i < 16 {
+        if strays(marks, signs[i], numbers[i]) {
+            return Answer::Refused(Refusal::MinusZero(i));
+        }
+        marks /= 2;
+        i += 1;
+    }
+    Answer::Done
+}
+
+// Refused where a place that is not used, or a raw bit past the type's own, is not 0.
+fn zero_test(misplaced: bool, clear: bool) -> Answer
+    ensures { λ a. ⌜ a ≡ when (misplaced || not clear) NotZero ⌝ }
+{
+    if misplaced {
+        return Answer::Refused(Refusal::NotZero);
+    }
+    if clear {
+        Answer::Done
+    } else {
+        Answer::Refused(Refusal::NotZero)
+    }
+}
+
+// The tests of a record: 7, 8, 11, 10.
+pub fn record_tests(r: Record) -> Answer
+    ensures { λ a. ⌜ a ≡ recordTests r ⌝ }
+{
+    let numbers = r.numbers;
+    let raw = r.raw;
+    let fields = field_tests(r);
+    let count = rows::raw_count(r.kind);
+    let zeros = zero_test(unused(r.kind, numbers), bits::zero_from(&raw, count));
+    let marks = stray(r.kind, numbers, r.minus);
+    first(fields, first(zeros, marks))
 }

@@ -1,5 +1,6 @@
 // The table of the types' fields, fields 10 on.
-ghost use Rattle.format.specs.Types.{information};
+ghost use mathlib.Core.Path.{_≡_};
+ghost use Rattle.format.specs.Types.{information, rawCount};
 ghost use Rattle.records.specs.Rows.{Describes};
 
 // Fields 10 on of a type: width, whether signed, least and most; all 0 at the places that the type does not use.
@@ -318,5 +319,21 @@ pub fn row_of(kind: u8) -> Row
         20 => TYPE20,
         25 => TYPE25,
         _ => NO_FIELDS,
+    }
+}
+
+// The raw bits of a type.
+pub fn raw_count(kind: u8) -> usize
+    ensures { λ r. ⌜ r ≡ rawCount kind ⌝ }
+{
+    match kind {
+        1 => 59,
+        2 => 301,
+        10 => 0,
+        11 => 0,
+        12 => 0,
+        20 => 0,
+        25 => 0,
+        _ => 184,
     }
 }
