@@ -2,9 +2,9 @@
 use mathlib.Core.Path.{_≡_, refl, sym, ap, _∙_}
 use mathlib.Core.Bool.{Bool, true, false, not}
 use mathlib.Core.List.{List}
-use Prim.Native.Nat.{ℕ, _+_, _*_, _≤_}
+use Prim.Native.Nat.{ℕ, _+_, _*_, _≤_, _<_}
 use lib.Dec.{ltb, eqb}
-use lib.ListN.{length, drop}
+use lib.ListN.{length, drop, getD}
 use borrow.Author.Tests.{ltb-false}
 use Rattle.bits.specs.Bits.{recorded}
 use Rattle.format.specs.declared.Answer.{Answer}
@@ -17,7 +17,9 @@ use Rattle.format.specs.Reading.{placeTests, stringTests, beside, reading, reco
 use Rattle.format.specs.Records.{blank, fieldTests}
 use Rattle.format.specs.Standing.{begins, standing}
 use Rattle.format.specs.Strings.{mark, typeAt, lengthOf}
+use Rattle.format.specs.Writing.{WritesBack}
 use Rattle.format.proofs.Order.{then-refused, then-next, then-pass, when-pass, is-done-eq}
+use Rattle.format.proofs.RoundTrips.{read-back}
 
 -- ---- what passed tests say
 pub passes-place : (bytes count place : ℕ) → isDone (placeTests bytes count place) ≡ true → (count ≤ bitLimit) × (count ≤ 8 * bytes) × (place ≤ count)
@@ -77,3 +79,9 @@ module _ (s : List ℕ) (n p : ℕ) where
         all-done w =
             let e : t ≡ Done = is-done-eq t w in
             ap (λ (q : Record). record { answer = Done; content = q }) er ∙ sym (late Done (tested ∙ e))
+
+-- ---- what reading's promise adds: what was read writes back
+pub with-back : (bytes : List ℕ) (count place : ℕ) → ((i : ℕ) → getD bytes i 0 < 256) → (r : Reading) → r ≡ reading bytes count place
+    → (r ≡ reading bytes count place) × (r .answer ≡ Done → WritesBack bytes count place (r .content))
+with-back bytes count place below r e =
+    (e, λ d. rw e (read-back bytes count place below (ap (λ (x : Reading). x .answer) (sym e) ∙ d)))

@@ -1,22 +1,30 @@
-// Reading the string at a place into a record.
+// Reading the string at a place into a record, and writing a record as a string.
+mod writing;
+
 use format::Answer;
 use format::Reading;
 use format::Record;
 use format::Refusal;
+use format::Written;
 ghost use mathlib.Core.Path.{_≡_};
 ghost use mathlib.Core.Bool.{true};
 ghost use mathlib.Core.Logic.{_↔_};
-ghost use Prim.Native.Nat.{_+_, _*_, _^_, _<_, _≤_};
+ghost use Prim.Native.Nat.{ℕ, _+_, _*_, _^_, _<_, _≤_};
+ghost use lib.Dec.{ltb};
 ghost use lib.ListN.{length, drop};
 ghost use Rattle.bits.specs.Bits.{unpack, recorded, cut};
 ghost use Rattle.cyclic.specs.Poly.{Divides};
-ghost use Rattle.format.specs.Answers.{bitLimit};
+ghost use Rattle.format.specs.Answers.{bitLimit, when};
 ghost use Rattle.format.specs.Records.{blank};
 ghost use Rattle.codec.specs.Decoded.{numberOf, markBit, Holds};
 ghost use Rattle.format.specs.Fields.{total};
 ghost use Rattle.format.specs.Reading.{recordAt, placeTests, stringTests, beside, reading};
 ghost use Rattle.format.specs.Strings.{typeAt, lengthOf, generatorOf};
-ghost use Rattle.format.specs.Types.{information, rawCount};
+ghost use Rattle.format.specs.Types.{information};
+ghost use Rattle.format.specs.Writing.{writing, bytesAfter, ReadsBack, WritesBack};
+ghost use Rattle.format.specs.declared.Answer.the-variants.{Done};
+ghost use Rattle.format.specs.declared.Written.the-variants.{Upto};
+ghost use Rattle.format.specs.declared.Refusal.the-variants.{RunsOut};
 
 // The numbers of a type's information fields, and their minus-zero mark.
 pub struct Numbers {
@@ -72,22 +80,6 @@ fn numbers_at(part: &[u8], from: usize, kind: u8) -> Numbers
     Numbers { numbers, minus }
 }
 
-// The raw bits of a type.
-fn raw_count(kind: u8) -> usize
-    ensures { λ r. ⌜ r ≡ rawCount kind ⌝ }
-{
-    match kind {
-        1 => 59,
-        2 => 301,
-        10 => 0,
-        11 => 0,
-        12 => 0,
-        20 => 0,
-        25 => 0,
-        _ => 184,
-    }
-}
-
 // The record of the string at the place `offset`, whose bits the part holds.
 fn decoded(part: &[u8], offset: usize) -> Record
     requires { ⌜ (offset < 8) × (offset + lengthOf (typeAt (unpack (now part)) offset) ≤ 8 * length (now part)) ⌝ }
@@ -99,7 +91,7 @@ fn decoded(part: &[u8], offset: usize) -> Record
     let numbers = fields.numbers;
     let minus = fields.minus;
     let mut raw = [0u8; 38];
-    bits::pack_bits(&mut raw, part, offset + 50, raw_count(kind));
+    bits::pack_bits(&mut raw, part, offset + 50, records::rows::raw_count(kind));
     Record {
         kind,
         satellite: ((service >> 26) % 64) as u8,
@@ -207,6 +199,7 @@ fn blank_record() -> Record
 // Reads the string at a place: the answer, beside the record or a blank one.
 pub fn read(rec: &[u8], count: usize, place: usize) -> Reading
     ensures { λ r. ⌜ r ≡ reading (now (rec .entry)) count place ⌝ }
+    ensures { λ r. ⌜ (r .answer ≡ Done → WritesBack (now (rec .entry)) count place (r .content)) ⌝ }
 {
     let early = place_tests(rec.len(), count, place);
     if !records::is_done(early) {
@@ -234,4 +227,39 @@ pub fn read(rec: &[u8], count: usize, place: usize) -> Reading
         answer: Answer::Done,
         content,
     }
+}
+
+// The test 5 of a string of a type at a place.
+fn room_test(count: usize, place: usize, kind: u8) -> Answer
+    requires { ⌜ (count ≤ bitLimit) × (place ≤ count) ⌝ }
+    ensures { λ a. ⌜ a ≡ when (ltb count (place + lengthOf kind)) (RunsOut place) ⌝ }
+{
+    let long = listing::length_of(kind as u64);
+    if long > count - place {
+        return Answer::Refused(Refusal::RunsOut(place));
+    }
+    Answer::Done
+}
+
+// Writes a record's string at a place, and answers the place after it. A refusal leaves every byte unchanged.
+pub fn write(rec: &mut [u8], count: usize, place: usize, r: Record) -> Written
+    ensures { λ w. ⌜ w ≡ writing (length (now (rec .entry))) count place r ⌝ }
+    ensures { λ w. ⌜ now (rec .exit) ≡ bytesAfter w place r (now (rec .entry)) ⌝ }
+    ensures { λ w. ⌜ ((next : ℕ) → w ≡ Upto next → ReadsBack (now (rec .exit)) count place r) ⌝ }
+{
+    let early = place_tests(rec.len(), count, place);
+    if let Answer::Refused(refusal) = early {
+        return Written::Refused(refusal);
+    }
+    let tested = records::record_tests(r);
+    let room = room_test(count, place, r.kind);
+    let late = records::first(tested, room);
+    if let Answer::Refused(refusal) = late {
+        return Written::Refused(refusal);
+    }
+    let long = listing::length_of(r.kind as u64);
+    let first = place / 8;
+    let last = (place + long + 7) / 8;
+    writing::put_string(&mut rec[first..last], place % 8, r);
+    Written::Upto(place + long)
 }

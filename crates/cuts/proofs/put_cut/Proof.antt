@@ -35,7 +35,7 @@ returns c =
     let first = c .before .before .before .before .before .before in
     let v = first .put-number .ensures in
     let a = first .before .before in
-    let code = a .answer-number .ensures ∙ ap (λ (r : Reading). answerCode (r .answer) .0) (a .before .read .ensures) in
+    let code = a .answer-number .ensures ∙ ap (λ (r : Reading). answerCode (r .answer) .0) (a .before .read .ensures .0) in
     line-wrote _ _ code v w (omega (arith, number-length _ _ v, number-length _ _ w))
 
 pub put-cut-spec : {M : Type 1} → statement M

@@ -1,0 +1,99 @@
+// A record's string put into lent bytes.
+use format::Record;
+ghost use mathlib.Core.Path.{_≡_};
+ghost use mathlib.Core.Bool.{true, false};
+ghost use Prim.Native.Nat.{_+_, _*_, _-_, _^_, _<_, _≤_};
+ghost use lib.IntN.{pos, natAbs};
+ghost use lib.ListN.{length};
+ghost use Rattle.bits.specs.Bits.{number, unpack, cut, put};
+ghost use Rattle.cyclic.specs.Register.{check};
+ghost use Rattle.format.specs.declared.Answer.the-variants.{Done};
+ghost use Rattle.format.specs.Fields.{total, codes};
+ghost use Rattle.format.specs.Records.{ranges, unused, stray, markBits, fieldTests, recordTests};
+ghost use Rattle.format.specs.Strings.{lengthOf, generatorOf, checkBits};
+ghost use Rattle.format.specs.Types.{places, information};
+ghost use Rattle.format.specs.Writing.{serviceBits, string};
+ghost use Rattle.codec.specs.Coded.{codeOf};
+
+// The bits of a number in a field of `width` bits, as a number.
+fn code(signed: bool, width: usize, v: i64, minus: bool) -> u64
+    requires { ⌜ (width ≤ 57) × (signed ≡ true → (2 ≤ width) × (natAbs v < 2 ^ (width - 1))) × (signed ≡ false → (v ≡ pos (natAbs v)) × (natAbs v < 2 ^ width)) ⌝ }
+    ensures { λ r. ⌜ r ≡ number (codeOf signed width v minus) ⌝ }
+{
+    if signed {
+        return bits::sign_magnitude(v, minus, width);
+    }
+    v as u64
+}
+
+// Puts the bits of a type's information fields from the place `from` on.
+fn put_numbers(part: &mut [u8], from: usize, kind: u8, numbers: [i64; 16], minus: u16)
+    requires { ⌜ (from + total (information kind) ≤ 8 * length (now part)) × (from + total (information kind) < 2 ^ 64) ⌝ }
+    requires { ⌜ (ranges (information kind) numbers 10 ≡ Done) × (unused (information kind) numbers ≡ false) × (stray (information kind) numbers (markBits places minus) 0 ≡ Done) ⌝ }
+    ensures { λ _. ⌜ unpack (now (part .exit)) ≡ put from (codes (information kind) numbers (markBits places minus)) (unpack (now (part .entry))) ⌝ }
+{
+    let row = records::rows::row_of(kind);
+    let widths = row.widths;
+    let signs = row.signed;
+    let mut at = from;
+    let mut marks = minus;
+    let mut i: usize = 0;
+    while i < 16 {
+        let width = widths[i] as usize;
+        let x = code(signs[i], width, numbers[i], marks % 2 == 1);
+        bits::put_field(part, at, width, x);
+        at += width;
+        marks /= 2;
+        i += 1;
+    }
+}
+
+// The service bits of a record, bits 13 to 50, as a number.
+fn service(r: Record) -> u64
+    requires { ⌜ fieldTests r ≡ Done ⌝ }
+    ensures { λ w. ⌜ w ≡ number (serviceBits r) ⌝ }
+{
+    let satellite = r.kind as u64 * 64 + r.satellite as u64;
+    let validity = (satellite * 2 + r.signal as u64) * 2 + r.validity as u64;
+    let attitude = (validity * 16 + r.call as u64) * 2 + r.attitude as u64;
+    let next = (attitude * 4 + r.correction as u64) * 2 + r.next as u64;
+    next * 65536 + r.time as u64
+}
+
+// How many check bits a type has.
+fn check_count(kind: u8) -> usize
+    ensures { λ n. ⌜ n ≡ checkBits kind ⌝ }
+{
+    if kind == 2 { 24 } else { 16 }
+}
+
+// The check bits of the `count` bits from the place `offset`, by a type's generator, as a number.
+fn check(part: &[u8], offset: usize, count: usize, kind: u8) -> u32
+    requires { ⌜ (8 ≤ count) × (offset + count ≤ 8 * length (now part)) × (offset + count < 2 ^ 32) ⌝ }
+    ensures { λ c. ⌜ c ≡ number (check (generatorOf kind) (cut offset count (unpack (now (part .entry))))) ⌝ }
+{
+    if kind == 2 {
+        let table = cyclic::tables::table24();
+        return cyclic::table_check(part, offset, count, &table, 0x1864CFB, 24);
+    }
+    let table = cyclic::tables::table16();
+    cyclic::table_check(part, offset, count, &table, 0x16F63, 16)
+}
+
+// Puts the string of a record at the place `offset`.
+pub fn put_string(part: &mut [u8], offset: usize, r: Record)
+    requires { ⌜ (offset < 8) × (offset + lengthOf (r .kind) ≤ 8 * length (now part)) × (recordTests r ≡ Done) ⌝ }
+    ensures { λ _. ⌜ unpack (now (part .exit)) ≡ put offset (string r) (unpack (now (part .entry))) ⌝ }
+{
+    let kind = r.kind;
+    let numbers = r.numbers;
+    let raw = r.raw;
+    let degree = check_count(kind);
+    let count = listing::length_of(kind as u64) - degree;
+    let n = records::rows::raw_count(kind);
+    bits::put_field(part, offset, 50, (0x5F1 << 38) + service(r));
+    put_numbers(part, offset + 50, kind, numbers, r.minus);
+    bits::copy_bits(part, offset + count - n, &raw, 0, n);
+    let c = check(part, offset, count, kind);
+    bits::put_field(part, offset + count, degree, c as u64);
+}
