@@ -11,10 +11,11 @@ use Rattle.bits.specs.Signed.{signedOf, isMinusZero}
 use Rattle.cyclic.specs.Generators.{generator16, generator24}
 use Rattle.cyclic.specs.Register.{check}
 use Rattle.format.specs.declared.Record.{Record}
-use Rattle.format.specs.Answers.{answerCode, listedCode, listAnswer}
+use Rattle.format.specs.Answers.{answerCode, listedCode, writtenCode, listAnswer}
 use Rattle.format.specs.Listing.{starts}
 use Rattle.format.specs.Reading.{reading}
 use Rattle.format.specs.Records.{fieldTests}
+use Rattle.format.specs.Writing.{writing}
 
 -- What a row says.
 pub data Example : Type 0 where
@@ -27,12 +28,17 @@ pub data Example : Type 0 where
   -- the test of a record's fields, and the reading at a place: the number and the value that it answers
   testIs : (content : Record) (number value : ℕ) → Example
   readingIs : (bytes : List ℕ) (count place number value : ℕ) → Example
+  -- the writing of a record at a place of so many bits of so many bytes: the number and the value that it answers
+  writingIs : (content : Record) (bytes count place number value : ℕ) → Example
 
 abbrev pub listingOf : List ℕ → ℕ → ℕ → ℕ × ℕ
 listingOf bytes count room = listedCode (listAnswer (length bytes) count room (length (starts (recorded bytes count))))
 
 abbrev pub readingOf : List ℕ → ℕ → ℕ → ℕ × ℕ
 readingOf bytes count place = answerCode (reading bytes count place .answer)
+
+abbrev pub writingOf : Record → ℕ → ℕ → ℕ → ℕ × ℕ
+writingOf content bytes count place = writtenCode (writing bytes count place content)
 
 -- A record of type 10 with these tb and OMB, all other fields at their least.
 abbrev pub ephemeris : ℕ → ℕ → Record
@@ -62,8 +68,9 @@ Says (signedIs p value minusZero) = (signedOf p ≡ value) × (isMinusZero p ≡
 Says (listingIs bytes count room number value) = (listingOf bytes count room .0 ≡ number) × (listingOf bytes count room .1 ≡ value)
 Says (testIs r number value) = (answerCode (fieldTests r) .0 ≡ number) × (answerCode (fieldTests r) .1 ≡ value)
 Says (readingIs bytes count place number value) = (readingOf bytes count place .0 ≡ number) × (readingOf bytes count place .1 ≡ value)
+Says (writingIs r bytes count place number value) = (writingOf r bytes count place .0 ≡ number) × (writingOf r bytes count place .1 ≡ value)
 
--- The rows, in the order of document 01, 1 to 10; 8, 9 and 10 take two rows each.
+-- The rows, in the order of document 01, 1 to 10; 8 and 9 take four rows each, two for reading's test and two for writing, and 10 takes two.
 abbrev pub rows : List Example
 rows =
     checkIs generator16 234 1 0x6F63
@@ -75,8 +82,12 @@ rows =
     ∷ signedIs (bits 9 0b111111111) (negsuc 254) false
     ∷ testIs (ephemeris 959 0) 0 0
     ∷ testIs (ephemeris 960 0) 7 14
+    ∷ writingIs (ephemeris 959 0) 32 250 0 0 250
+    ∷ writingIs (ephemeris 960 0) 32 250 0 7 14
     ∷ testIs (ephemeris 0 43199) 0 0
     ∷ testIs (ephemeris 0 43200) 7 9
+    ∷ writingIs (ephemeris 0 43199) 32 250 0 0 250
+    ∷ writingIs (ephemeris 0 43200) 32 250 0 7 9
     ∷ listingIs [] 0 0 0 0
     ∷ readingIs [] 0 0 5 0
     ∷ []
@@ -94,6 +105,7 @@ holds (signedIs p value minusZero) = sameInt (signedOf p) value && Bool·beq (is
 holds (listingIs bytes count room number value) = eqb (listingOf bytes count room .0) number && eqb (listingOf bytes count room .1) value
 holds (testIs r number value) = eqb (answerCode (fieldTests r) .0) number && eqb (answerCode (fieldTests r) .1) value
 holds (readingIs bytes count place number value) = eqb (readingOf bytes count place .0) number && eqb (readingOf bytes count place .1) value
+holds (writingIs r bytes count place number value) = eqb (writingOf r bytes count place .0) number && eqb (writingOf r bytes count place .1) value
 
 abbrev pub allHold : List Example → Bool
 allHold [] = true
