@@ -1,7 +1,7 @@
--- Records of every kind of type that writing takes: both ends of every field's range, minus zeros, raw bits that are all 1. Assumes nothing.
+-- Records of every type that writing takes: both ends of every field's range, minus zeros, raw bits that are all 1. Assumes nothing.
 use mathlib.Core.Bool.{true, cond}
 use mathlib.Core.List.{List, [], _∷_, map}
-use Prim.Native.Nat.{ℕ}
+use Prim.Native.Nat.{ℕ, zero, suc}
 use lib.Dec.{eqb}
 use lib.IntN.{ℤ, pos}
 use lib.ListN.{replicate, set}
@@ -11,9 +11,13 @@ use Rattle.format.specs.Fields.{Field, isSigned, least, most}
 use Rattle.format.specs.Records.{markOf, rawBytes}
 use Rattle.format.specs.Types.{information, rawCount}
 
--- The types with fields, the lengths 125 and 375, and a type of the others.
+-- All types, the last first.
+abbrev pub below : ℕ → List ℕ
+below zero = []
+below (suc n) = n ∷ below n
+
 abbrev pub kinds : List ℕ
-kinds = 0 ∷ 1 ∷ 2 ∷ 10 ∷ 11 ∷ 12 ∷ 20 ∷ 25 ∷ []
+kinds = below 64
 
 -- A record of a type with these numbers, this mark and these raw bytes.
 abbrev pub recordOf : ℕ → List ℤ → ℕ → List ℕ → Record
