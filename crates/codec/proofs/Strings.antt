@@ -1,11 +1,10 @@
 -- The string of a record from the pieces that the code puts, and what writing it answers. Assumes nothing.
 use mathlib.Core.Path.{_≡_, refl, sym, ap, ap₂, _∙_, subst}
 use mathlib.Core.Bool.{Bool, false, _||_}
-use mathlib.Core.List.{List, _∷_, _++_, append-assoc, tail}
-use Prim.Native.Nat.{ℕ, suc, _+_, _-_, _*_, _/_, _%_, _^_, _≤_, _<_}
+use mathlib.Core.List.{List, _++_, append-assoc, tail}
+use Prim.Native.Nat.{ℕ, _+_, _-_, _*_, _/_, _%_, _^_, _≤_, _<_}
 use native.Mathlib.Omega.{arith}
 use lib.Dec.{ltb}
-use lib.IntN.{ℤ, pos}
 use lib.ListN.{length, length-append, take, drop, getD}
 use borrow.Author.Tests.{eq-eqb, ne-eqb, ltb-false}
 use Rattle.bits.specs.Bits.{number, bits, unpack, cut, put, packed}
@@ -17,65 +16,22 @@ use Rattle.format.specs.declared.Answer.{Answer}
 use Rattle.format.specs.declared.Answer.the-variants.{Done, Refused}
 use Rattle.format.specs.declared.Record.{Record}
 use Rattle.format.specs.declared.Refusal.{Refusal}
-use Rattle.format.specs.declared.Refusal.the-variants.{RunsOut, OutOfRange, OtherOrbit, NotZero}
+use Rattle.format.specs.declared.Refusal.the-variants.{RunsOut, NotZero}
 use Rattle.format.specs.declared.Written.the-variants.{Upto, Refused as NotWritten}
 use Rattle.format.specs.Answers.{when, _then_}
-use Rattle.format.specs.Fields.{Field, unsigned, inRange, total, codes}
+use Rattle.format.specs.Fields.{total, codes}
 use Rattle.format.specs.Reading.{placeTests}
-use Rattle.format.specs.Records.{rawBytes, numbersOf, markBits, ranges, otherOrbit, fieldTests, unused, overfilled, stray, recordTests}
+use Rattle.format.specs.Records.{rawBytes, markBits, ranges, fieldTests, unused, overfilled, stray, recordTests}
 use Rattle.format.specs.Strings.{mark, lengthOf, generatorOf, checkBits}
-use Rattle.format.specs.Types.{places, information, fieldsOf, rawCount}
+use Rattle.format.specs.Types.{places, information, rawCount}
 use Rattle.format.specs.Writing.{serviceBits, contentBits, checked, string, writeTests, writeAnswer, writing, ReadsBack}
-use Rattle.format.proofs.FieldLaws.{or-left, cond-pass, range-most, information-sound, length-codes, length-markBits}
+use Rattle.format.proofs.FieldLaws.{or-left, information-sound, length-codes, length-markBits}
 use Rattle.format.proofs.Information.{every-type, length-information, string-filled, raw-few}
 use Rattle.format.proofs.Order.{done-then, refused-then, then-pass, when-pass}
 use Rattle.format.proofs.RoundTrips.{written-back}
-use Rattle.format.proofs.Writing.{Holds, length-service, length-check-of, length-string}
+use Rattle.format.proofs.Writing.{Holds, ranged, length-service, length-check-of, length-string}
 
 -- ---- the service bits
-range-step : (w a b k n i : ℕ) (fs : List Field) (vs : List ℤ) → ranges (unsigned w a b k ∷ fs) (pos n ∷ vs) i ≡ Done → (n ≤ b) × (ranges fs vs (suc i) ≡ Done)
-unfolding ranges
-range-step w a b k n i fs vs e =
-    let s = cond-pass (inRange (unsigned w a b k) (pos n)) (ranges fs vs (suc i)) (OutOfRange i) e in (range-most w a b k n (s .0), s .1)
-
--- what the test of ranges says of a record
-record Ranged (r : Record) : Type 0 where
-  kind : r .kind < 64
-  satellite : r .satellite < 64
-  signal : r .signal < 2
-  validity : r .validity < 2
-  call : r .call < 16
-  attitude : r .attitude < 2
-  correction : r .correction < 4
-  next : r .next < 2
-  time : r .time < 65536
-  numbers : ranges (information (r .kind)) (r .numbers) 10 ≡ Done
-
-ranged : (r : Record) → fieldTests r ≡ Done → Ranged r
-unfolding fieldTests
-ranged r e =
-    let s₁ = range-step _ _ _ _ _ _ _ _ (then-pass (ranges (fieldsOf (r .kind)) (numbersOf r) 1) (when (otherOrbit r) OtherOrbit) e .0) in
-    let s₂ = range-step _ _ _ _ _ _ _ _ (s₁ .1) in
-    let s₃ = range-step _ _ _ _ _ _ _ _ (s₂ .1) in
-    let s₄ = range-step _ _ _ _ _ _ _ _ (s₃ .1) in
-    let s₅ = range-step _ _ _ _ _ _ _ _ (s₄ .1) in
-    let s₆ = range-step _ _ _ _ _ _ _ _ (s₅ .1) in
-    let s₇ = range-step _ _ _ _ _ _ _ _ (s₆ .1) in
-    let s₈ = range-step _ _ _ _ _ _ _ _ (s₇ .1) in
-    let s₉ = range-step _ _ _ _ _ _ _ _ (s₈ .1) in
-    record {
-      kind = omega (arith, s₁ .0);
-      satellite = omega (arith, s₂ .0);
-      signal = omega (arith, s₃ .0);
-      validity = omega (arith, s₄ .0);
-      call = omega (arith, s₅ .0);
-      attitude = omega (arith, s₆ .0);
-      correction = omega (arith, s₇ .0);
-      next = omega (arith, s₈ .0);
-      time = omega (arith, s₉ .0);
-      numbers = s₉ .1;
-    }
-
 -- a number in front of bits that make a number
 in-front : (w x n k : ℕ) (q : List Bool) → x < 2 ^ w → length q ≡ n → number q ≡ k → number (bits w x ++ q) ≡ x * 2 ^ n + k
 in-front w x n k q h l e = number-append (bits w x) q ∙ rw (number-back w x h, l, e) refl
