@@ -78,7 +78,7 @@ pub range-most : (w a b k n : ℕ) → inRange (unsigned w a b k) (pos n) ≡ tr
 unfolding inRange
 range-most w a b k n e = leb-true n b (and-right (leb a n) (leb n b) e)
 
-range-size : (w k : ℕ) (v : ℤ) → inRange (signed w k) v ≡ true → natAbs v < 2 ^ (w - 1)
+pub range-size : (w k : ℕ) (v : ℤ) → inRange (signed w k) v ≡ true → natAbs v < 2 ^ (w - 1)
 unfolding inRange
 range-size w k (pos n) e = let m = 2 ^ (w - 1) - 1 in omega (arith, leb-true n m (and-right (leZ (negℤ (pos m)) (pos n)) (leb n m) e), pow-pos (w - 1))
 range-size w k (negsuc n) e =

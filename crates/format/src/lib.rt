@@ -56,6 +56,24 @@ pub enum Written {
     Refused(Refusal),
 }
 
+// What scaling answers: a field's value, or why there is none.
+pub enum Value {
+    Number(f64),
+    Refused(Refusal),
+}
+
+// What an accuracy factor answers.
+pub enum Accuracy {
+    Centimetres(usize),
+    Refused(Refusal),
+}
+
+// What the day count answers: the days since 1 January 1996.
+pub enum DayCount {
+    Days(usize),
+    Refused(Refusal),
+}
+
 // The limits of a recording.
 pub struct Limits {}
 
