@@ -6,7 +6,7 @@ use Prim.Native.Nat.{ℕ, zero, suc}
 use lib.Dec.{eqb}
 use lib.IntN.{pos}
 use lib.ListN.{getD, List·getD-map}
-use Rattle.format.specs.Fields.{Field, unsigned, signed, absent, width, isSigned, least, most}
+use Rattle.format.specs.Fields.{Field, unsigned, signed, absent, width, isSigned, least, most, power}
 use Rattle.format.specs.Types.{information}
 use Rattle.format.proofs.Information.{every-type}
 use Rattle.records.specs.declared.rows.Row.{Row}
@@ -50,3 +50,6 @@ module _ {fs : List Field} {row : Row} (d : Describes fs row) (i : ℕ) where
 
   pub most-at : getD (row .most) i (pos 0) ≡ most (getD fs i absent)
   most-at = rw (d .highs, List·getD-map most fs i absent)
+
+  pub power-at : getD (row .powers) i 0 ≡ power (getD fs i absent)
+  power-at = rw (d .powers, List·getD-map power fs i absent)

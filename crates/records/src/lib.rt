@@ -7,6 +7,7 @@ use format::Refusal;
 ghost use mathlib.Core.Path.{_≡_};
 ghost use mathlib.Core.Bool.{cond, not, _&&_, _||_};
 ghost use lib.Dec.{eqb, leb};
+ghost use lib.Signed.{leZ};
 ghost use Rattle.bits.specs.Bits.{odd};
 ghost use Rattle.format.specs.declared.Answer.the-variants.{Refused};
 ghost use Rattle.format.specs.declared.Refusal.the-variants.{OutOfRange, OtherOrbit, NotZero};
@@ -32,17 +33,22 @@ pub fn first(a: Answer, b: Answer) -> Answer
     if is_done(a) { b } else { a }
 }
 
+// Whether a number is in a range.
+pub fn between(least: i64, v: i64, most: i64) -> bool
+    ensures { λ r. ⌜ r ≡ leZ least v && leZ v most ⌝ }
+{
+    if least <= v { v <= most } else { false }
+}
+
 // Whether a field takes a number: of width 0, a place that its type does not use, it takes any.
 fn in_range(width: u8, least: i64, most: i64, v: i64) -> bool
     ensures { λ r. ⌜ r ≡ takes width least most v ⌝ }
 {
     if width == 0 {
-        return true;
+        true
+    } else {
+        between(least, v, most)
     }
-    if least <= v {
-        return v <= most;
-    }
-    false
 }
 
 // The first of fields 10 on that is out of range.

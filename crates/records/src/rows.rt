@@ -3,13 +3,19 @@ ghost use mathlib.Core.Path.{_≡_};
 ghost use Rattle.format.specs.Types.{information, rawCount};
 ghost use Rattle.records.specs.Rows.{Describes};
 
-// Fields 10 on of a type: width, whether signed, least and most; all 0 at the places that the type does not use.
+// Fields 10 on of a type: width, whether signed, least, most and power; all 0 at the places that the type does not use.
 pub struct Row {
     pub widths: [u8; 16],
     pub signed: [bool; 16],
     pub least: [i64; 16],
     pub most: [i64; 16],
+    pub powers: [u8; 16],
 }
+
+// How many four-year intervals N4 counts, and the days of one.
+pub const INTERVALS: i64 = 31;
+
+pub const INTERVAL_DAYS: i64 = 1461;
 
 const TYPE10: Row = Row {
     widths: [5, 11, 3, 6, 10, 8, 8, 2, 2, 5, 5, 32, 19, 15, 40, 13],
@@ -50,8 +56,8 @@ const TYPE10: Row = Row {
         -4095,
     ],
     most: [
-        31,
-        1461,
+        INTERVALS,
+        INTERVAL_DAYS,
         7,
         63,
         959,
@@ -67,6 +73,7 @@ const TYPE10: Row = Row {
         549755813887,
         4095,
     ],
+    powers: [0, 0, 0, 0, 0, 0, 0, 0, 0, 0, 0, 38, 48, 57, 31, 49],
 };
 
 const TYPE11: Row = Row {
@@ -125,6 +132,7 @@ const TYPE11: Row = Row {
         0,
         0,
     ],
+    powers: [20, 20, 20, 30, 10, 10, 0, 0, 0, 0, 0, 0, 0, 0, 0, 0],
 };
 
 const TYPE12: Row = Row {
@@ -183,6 +191,7 @@ const TYPE12: Row = Row {
         0,
         0,
     ],
+    powers: [10, 30, 30, 39, 39, 39, 38, 38, 0, 0, 0, 0, 0, 0, 0, 0],
 };
 
 const TYPE20: Row = Row {
@@ -227,7 +236,7 @@ const TYPE20: Row = Row {
         3,
         63,
         63,
-        1461,
+        INTERVAL_DAYS,
         31,
         7,
         8191,
@@ -241,6 +250,7 @@ const TYPE20: Row = Row {
         8388607,
         0,
     ],
+    powers: [0, 0, 0, 0, 0, 0, 20, 20, 5, 20, 20, 15, 9, 14, 0, 0],
 };
 
 const TYPE25: Row = Row {
@@ -282,7 +292,7 @@ const TYPE25: Row = Row {
         0,
     ],
     most: [
-        1461,
+        INTERVAL_DAYS,
         32767,
         32767,
         255,
@@ -299,6 +309,7 @@ const TYPE25: Row = Row {
         67108863,
         0,
     ],
+    powers: [0, 14, 14, 14, 14, 14, 14, 16, 16, 16, 7, 4, 0, 0, 0, 0],
 };
 
 const NO_FIELDS: Row = Row {
@@ -306,6 +317,7 @@ const NO_FIELDS: Row = Row {
     signed: [false; 16],
     least: [0; 16],
     most: [0; 16],
+    powers: [0; 16],
 };
 
 // The row of a type.

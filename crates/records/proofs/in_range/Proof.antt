@@ -1,9 +1,13 @@
--- `records::in_range`: by its tests, on numbers that fit 64 bits. Assumes nothing.
+-- `records::in_range`: by its width, and by its range. Assumes nothing.
 use mir.Facts.{toZ-ofZ}
 use mir.Syntax.{w64}
+use borrow.Author.Needs.{needs}
 use borrow.Author.Tests.{eq-eqb, ne-eqb}
 use Rattle.records.proofs.in_range.Statement.{statement}
 use Rattle.records.proofs.in_range.Tie as tie
+
+between-requires : tie.Need-between-requires
+between-requires c κs = search needs
 
 returns : tie.Need-returns
 returns c = simp (eq-eqb _ _ (c .if1 .taken))
@@ -11,14 +15,8 @@ returns c = simp (eq-eqb _ _ (c .if1 .taken))
 returns-2 : tie.Need-returns-2
 returns-2 c =
     let f = c .before .before .fits in
-    let t = simp (toZ-ofZ {w = w64} (f .v), toZ-ofZ {w = w64} (f .least)) at (c .if2 .taken) in
-    simp (ne-eqb _ _ (c .before .if1 .left), t, toZ-ofZ {w = w64} (f .v), toZ-ofZ {w = w64} (f .most))
-
-returns-3 : tie.Need-returns-3
-returns-3 c =
-    let f = c .before .before .fits in
-    let t = simp (toZ-ofZ {w = w64} (f .v), toZ-ofZ {w = w64} (f .least)) at (c .if2 .left) in
-    simp (ne-eqb _ _ (c .before .if1 .left), t)
+    let t = simp (toZ-ofZ {w = w64} (f .least), toZ-ofZ {w = w64} (f .v), toZ-ofZ {w = w64} (f .most)) at (c .between .ensures) in
+    simp (ne-eqb _ _ (c .before .if1 .left)) t
 
 pub in-range-spec : {M : Type 1} → statement M
-in-range-spec = tie.close (tie.spec returns returns-2 returns-3)
+in-range-spec = tie.close (tie.spec between-requires returns returns-2)

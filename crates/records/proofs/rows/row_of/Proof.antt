@@ -7,30 +7,30 @@ use Rattle.records.proofs.rows.row_of.Tie as tie
 
 returns : tie.Need-returns
 unfolding information
-returns c = rw (c .match .keys1) (record { widths = refl; signs = refl; lows = refl; highs = refl })
+returns c = rw (c .match .keys1) (record { widths = refl; signs = refl; lows = refl; highs = refl; powers = refl })
 
 returns-2 : tie.Need-returns-2
 unfolding information
-returns-2 c = rw (c .match .keys2) (record { widths = refl; signs = refl; lows = refl; highs = refl })
+returns-2 c = rw (c .match .keys2) (record { widths = refl; signs = refl; lows = refl; highs = refl; powers = refl })
 
 returns-3 : tie.Need-returns-3
 unfolding information
-returns-3 c = rw (c .match .keys3) (record { widths = refl; signs = refl; lows = refl; highs = refl })
+returns-3 c = rw (c .match .keys3) (record { widths = refl; signs = refl; lows = refl; highs = refl; powers = refl })
 
 returns-4 : tie.Need-returns-4
 unfolding information
-returns-4 c = rw (c .match .keys4) (record { widths = refl; signs = refl; lows = refl; highs = refl })
+returns-4 c = rw (c .match .keys4) (record { widths = refl; signs = refl; lows = refl; highs = refl; powers = refl })
 
 returns-5 : tie.Need-returns-5
 unfolding information
-returns-5 c = rw (c .match .keys5) (record { widths = refl; signs = refl; lows = refl; highs = refl })
+returns-5 c = rw (c .match .keys5) (record { widths = refl; signs = refl; lows = refl; highs = refl; powers = refl })
 
 returns-6 : tie.Need-returns-6
 unfolding information
 returns-6 c =
     let r = c .match .rest in
     simp (ne-eqb _ _ (r .0 .0 .0 .0 .1), ne-eqb _ _ (r .0 .0 .0 .1), ne-eqb _ _ (r .0 .0 .1), ne-eqb _ _ (r .0 .1), ne-eqb _ _ (r .1))
-    (record { widths = refl; signs = refl; lows = refl; highs = refl })
+    (record { widths = refl; signs = refl; lows = refl; highs = refl; powers = refl })
 
 pub row-of-spec : {M : Type 1} → statement M
 row-of-spec = tie.close (tie.spec returns returns-2 returns-3 returns-4 returns-5 returns-6)
