@@ -2,3 +2,4 @@ pub mod Starred
 pub mod Tests
 pub mod Witnesses
 pub mod Writable
+pub mod Values

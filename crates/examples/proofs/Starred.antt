@@ -9,15 +9,16 @@ use borrow.Author.Tests.{eqb-true}
 use Rattle.bits.specs.Bits.{number, recorded, cut}
 use Rattle.bits.specs.Signed.{signedOf, isMinusZero}
 use Rattle.cyclic.specs.Register.{check, remainder}
-use Rattle.format.specs.Answers.{answerCode, when, _then_, listAnswer}
+use Rattle.format.specs.Answers.{answerCode, dayCode, when, _then_, listAnswer}
 use Rattle.format.specs.Fields.{inRange}
 use Rattle.format.specs.Reading.{reading, placeTests, stringTests, recordAt}
 use Rattle.format.specs.Records.{fieldTests, ranges, unused, overfilled, stray, markBits, recordTests}
 use Rattle.format.specs.Strings.{stringBits, typeAt, lengthOf, generatorOf}
 use Rattle.format.specs.Types.{information, rawCount}
+use Rattle.format.specs.Values.{dayCount}
 use Rattle.format.specs.Writing.{writing, writeTests}
 use Rattle.format.specs.Listing.{scan, starts}
-use Rattle.examples.specs.Starred.{Example, checkIs, signedIs, listingIs, testIs, readingIs, writingIs, listingOf, readingOf, writingOf, onlyOne, Says, rows, sameInt, holds, allHold, Each}
+use Rattle.examples.specs.Starred.{Example, checkIs, signedIs, listingIs, testIs, readingIs, writingIs, daysIs, listingOf, readingOf, writingOf, onlyOne, Says, rows, sameInt, holds, allHold, Each}
 
 and-left : (a b : Bool) → a && b ≡ true → a ≡ true
 and-left true b e = refl
@@ -53,6 +54,7 @@ sound (listingIs bytes count room number value) t = both (listingOf bytes count 
 sound (testIs r number value) t = both (answerCode (fieldTests r) .0) number (answerCode (fieldTests r) .1) value t
 sound (readingIs bytes count place number value) t = both (readingOf bytes count place .0) number (readingOf bytes count place .1) value t
 sound (writingIs r bytes count place number value) t = both (writingOf r bytes count place .0) number (writingOf r bytes count place .1) value t
+sound (daysIs n4 nt number value) t = both (dayCode (dayCount n4 nt) .0) number (dayCode (dayCount n4 nt) .1) value t
 
 all-sound : (es : List Example) → allHold es ≡ true → Each Says es
 all-sound [] t = tt
@@ -60,7 +62,7 @@ all-sound (e ∷ es) t = (sound e (and-left (holds e) (allHold es) t), all-sound
 
 test : allHold rows ≡ true
 unfolding check remainder listAnswer recorded starts scan fieldTests ranges inRange information when _then_ reading placeTests stringTests recordAt stringBits cut typeAt
-    writing writeTests recordTests unused overfilled stray markBits rawCount lengthOf generatorOf
+    writing writeTests recordTests dayCount unused overfilled stray markBits rawCount lengthOf generatorOf
 test = refl
 
 -- Every starred example holds.

@@ -1,3 +1,4 @@
 pub mod Starred
 pub mod Recordings
 pub mod Writable
+pub mod Values

@@ -11,10 +11,11 @@ use Rattle.bits.specs.Signed.{signedOf, isMinusZero}
 use Rattle.cyclic.specs.Generators.{generator16, generator24}
 use Rattle.cyclic.specs.Register.{check}
 use Rattle.format.specs.declared.Record.{Record}
-use Rattle.format.specs.Answers.{answerCode, listedCode, writtenCode, listAnswer}
+use Rattle.format.specs.Answers.{answerCode, listedCode, writtenCode, dayCode, listAnswer}
 use Rattle.format.specs.Listing.{starts}
 use Rattle.format.specs.Reading.{reading}
 use Rattle.format.specs.Records.{fieldTests}
+use Rattle.format.specs.Values.{dayCount}
 use Rattle.format.specs.Writing.{writing}
 
 -- What a row says.
@@ -30,6 +31,8 @@ pub data Example : Type 0 where
   readingIs : (bytes : List ℕ) (count place number value : ℕ) → Example
   -- the writing of a record at a place of so many bits of so many bytes: the number and the value that it answers
   writingIs : (content : Record) (bytes count place number value : ℕ) → Example
+  -- the day count of an interval and a day: the number and the value that it answers
+  daysIs : (n4 nt : ℤ) (number value : ℕ) → Example
 
 abbrev pub listingOf : List ℕ → ℕ → ℕ → ℕ × ℕ
 listingOf bytes count room = listedCode (listAnswer (length bytes) count room (length (starts (recorded bytes count))))
@@ -69,8 +72,9 @@ Says (listingIs bytes count room number value) = (listingOf bytes count room .0 
 Says (testIs r number value) = (answerCode (fieldTests r) .0 ≡ number) × (answerCode (fieldTests r) .1 ≡ value)
 Says (readingIs bytes count place number value) = (readingOf bytes count place .0 ≡ number) × (readingOf bytes count place .1 ≡ value)
 Says (writingIs r bytes count place number value) = (writingOf r bytes count place .0 ≡ number) × (writingOf r bytes count place .1 ≡ value)
+Says (daysIs n4 nt number value) = (dayCode (dayCount n4 nt) .0 ≡ number) × (dayCode (dayCount n4 nt) .1 ≡ value)
 
--- The rows, in the order of document 01, 1 to 10; 8 and 9 take four rows each, two for reading's test and two for writing, and 10 takes two.
+-- The rows, in the order of document 01, 1 to 11; 8 and 9 take four rows each, two for reading's test and two for writing, and 10 and 11 take two.
 abbrev pub rows : List Example
 rows =
     checkIs generator16 234 1 0x6F63
@@ -90,6 +94,8 @@ rows =
     ∷ writingIs (ephemeris 0 43200) 32 250 0 7 9
     ∷ listingIs [] 0 0 0 0
     ∷ readingIs [] 0 0 5 0
+    ∷ daysIs (pos 1) (pos 1) 0 0
+    ∷ daysIs (pos 2) (pos 1) 0 1461
     ∷ []
 
 -- The test of a row, which the checker computes.
@@ -106,6 +112,7 @@ holds (listingIs bytes count room number value) = eqb (listingOf bytes count roo
 holds (testIs r number value) = eqb (answerCode (fieldTests r) .0) number && eqb (answerCode (fieldTests r) .1) value
 holds (readingIs bytes count place number value) = eqb (readingOf bytes count place .0) number && eqb (readingOf bytes count place .1) value
 holds (writingIs r bytes count place number value) = eqb (writingOf r bytes count place .0) number && eqb (writingOf r bytes count place .1) value
+holds (daysIs n4 nt number value) = eqb (dayCode (dayCount n4 nt) .0) number && eqb (dayCode (dayCount n4 nt) .1) value
 
 abbrev pub allHold : List Example → Bool
 allHold [] = true
