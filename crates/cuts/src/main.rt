@@ -12,7 +12,7 @@ fn put_cut(rec: &[u8], count: usize, out: &mut [u8], at: usize) -> usize
 {
     let reading = codec::read(rec, count, 0);
     let answer = reading.answer;
-    let number = report::answer_number(answer);
+    let number = answers::answer_number(answer);
     let next = text::put_number(out, at, count as u32, b',');
     text::put_number(out, next, number, b'\n')
 }

@@ -1,47 +1,16 @@
 // The text that the program `list` prints of a recording, put into a lent buffer. What that text is, `specs/` says.
-use format::Answer;
 use format::Limits;
 use format::Listed;
-use format::Refusal;
 ghost use mathlib.Core.List.{_++_};
 ghost use mathlib.Core.Path.{_≡_};
 ghost use Prim.Native.Nat.{_+_, _*_, _≤_};
 ghost use lib.ListN.{length, take};
-ghost use Rattle.format.specs.Answers.{refusalCode, answerCode, bitLimit};
+ghost use Rattle.format.specs.Answers.{answerCode, bitLimit};
 ghost use Rattle.format.specs.Listing.{starts};
 ghost use Rattle.format.specs.Reading.{reading};
 ghost use Rattle.text.specs.Text.{row, Wrote};
 ghost use Rattle.report.specs.Report.{header, allBits, line, lines, report};
 ghost use Rattle.report.specs.Lines.{Inside};
-
-// The paper's number of a refusal.
-fn refusal_number(refusal: Refusal) -> u32
-    ensures { λ r. ⌜ r ≡ refusalCode refusal .0 ⌝ }
-{
-    match refusal {
-        Refusal::TooLong => 1,
-        Refusal::BeyondBytes => 2,
-        Refusal::BeyondCount(_) => 3,
-        Refusal::NoMark(_) => 4,
-        Refusal::RunsOut(_) => 5,
-        Refusal::CheckFails(_) => 6,
-        Refusal::OutOfRange(_) => 7,
-        Refusal::OtherOrbit => 8,
-        Refusal::ListShort(_) => 9,
-        Refusal::MinusZero(_) => 10,
-        Refusal::NotZero => 11,
-    }
-}
-
-// The paper's number of an answer.
-pub fn answer_number(a: Answer) -> u32
-    ensures { λ r. ⌜ r ≡ answerCode a .0 ⌝ }
-{
-    match a {
-        Answer::Done => 0,
-        Answer::Refused(refusal) => refusal_number(refusal),
-    }
-}
 
 // The number that reading answers at a place.
 fn result_at(rec: &[u8], place: usize) -> u32
@@ -50,7 +19,7 @@ fn result_at(rec: &[u8], place: usize) -> u32
 {
     let found = codec::read(rec, 8 * rec.len(), place);
     let answer = found.answer;
-    answer_number(answer)
+    answers::answer_number(answer)
 }
 
 // The seven numbers of the line of the string at a place: the place, five of its fields cut out of its service bits, and reading's number.
