@@ -29,6 +29,7 @@ pub enum Listed {
 
 // A string by its fields: the nine service fields (type, satellite number j, signal flag, data flag, call, attitude, correction code KP, A, and the time mark count
 // OMB), sixteen whole numbers for fields 10 on, the minus-zero mark, and raw bytes.
+#[repr(C)]
 pub struct Record {
     pub kind: u8,
     pub satellite: u8,

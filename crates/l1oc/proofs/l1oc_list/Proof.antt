@@ -1,0 +1,23 @@
+-- `l1oc::l1oc_list`: what listing promises, with its answer's number and value. Assumes nothing.
+use borrow.Author.Needs.{needs}
+use Rattle.l1oc.proofs.Codes.{lists}
+use Rattle.l1oc.proofs.l1oc_list.Statement.{statement}
+use Rattle.l1oc.proofs.l1oc_list.Tie as tie
+
+list-requires : tie.Need-list-requires
+list-requires c κs = search needs
+
+listed-code-requires : tie.Need-listed-code-requires
+listed-code-requires c κs = search needs
+
+same-length : tie.Need-same-length
+same-length c = search needs
+
+returns : tie.Need-returns
+returns c =
+    let l = c .before .before .before in
+    let a = l .before .before .before .before .args in
+    lists (a .bytes .now) (a .count) (a .list .now) _ _ (c .listed-code .result) (l .list .ensures) (c .listed-code .ensures)
+
+pub l1oc-list-spec : {M : Type 1} → statement M
+l1oc-list-spec = tie.close (tie.spec list-requires listed-code-requires same-length returns)

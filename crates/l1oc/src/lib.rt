@@ -1,0 +1,118 @@
+// The C interface (`include/l1oc.h`): each function gives the answer of a proved one as the paper's number and value.
+use answers::Code;
+use format::Record;
+use format::Value;
+ghost use mathlib.Core.Path.{_≡_};
+ghost use lib.ListN.{length};
+ghost use Rattle.bits.specs.Bits.{recorded};
+ghost use Rattle.format.specs.Answers.{listedCode, writtenCode, valueCode, accuracyCode, dayCode};
+ghost use Rattle.format.specs.Demand3.{ListPromise};
+ghost use Rattle.format.specs.Listing.{starts, listAfter};
+ghost use Rattle.format.specs.Reading.{reading};
+ghost use Rattle.format.specs.Values.{powerOf, countOf, IsScaled, scaling, accuracy, dayCount};
+ghost use Rattle.format.specs.Writing.{writing, bytesAfter, ReadsBack, WritesBack};
+ghost use Rattle.l1oc.specs.Codes.{coded, readCoded, valueCoded, listed};
+
+// What reading answers: 0 and 0 beside the record, or a refusal beside a blank one.
+#[repr(C)]
+pub struct ReadCode {
+    pub number: u64,
+    pub value: u64,
+    pub content: Record,
+}
+
+// What scaling answers: 0 and 0 beside the value, or a refusal beside 0.0.
+#[repr(C)]
+pub struct ValueCode {
+    pub number: u64,
+    pub value: u64,
+    pub scaled: f64,
+}
+
+// Number, value and float of what scaling answers.
+fn value_code(answer: Value) -> ValueCode
+    ensures { λ r. ⌜ (r .number ≡ valueCode answer .0) × (r .value ≡ valueCode answer .1) × (r .scaled ≡ valueCode answer .2) ⌝ }
+{
+    match answer {
+        Value::Number(x) => ValueCode {
+            number: 0,
+            value: 0,
+            scaled: x,
+        },
+        Value::Refused(refusal) => {
+            let code = answers::refusal_code(refusal);
+            ValueCode {
+                number: code.number,
+                value: code.value,
+                scaled: 0.0,
+            }
+        }
+    }
+}
+
+// Lists the starts of the strings in the first `count` bits.
+#[no_mangle]
+pub extern "C" fn l1oc_list(bytes: &[u8], count: usize, list: &mut [u32]) -> Code
+    ensures { λ r. ⌜ r ≡ coded (listedCode (listed (now (bytes .entry)) count (now (list .entry)))) ⌝ }
+    ensures { λ _. ⌜ now (list .exit) ≡ listAfter (listed (now (bytes .entry)) count (now (list .entry))) (now (list .entry)) (starts (recorded (now (bytes .entry)) count)) ⌝ }
+    ensures { λ _. ⌜ ListPromise (now (bytes .entry)) count (now (list .entry)) (listed (now (bytes .entry)) count (now (list .entry))) (now (list .exit)) ⌝ }
+{
+    let answer = listing::list(bytes, count, list);
+    answers::listed_code(answer)
+}
+
+// Reads the string at a place: the answer, beside the record or a blank one.
+#[no_mangle]
+pub extern "C" fn l1oc_read(bytes: &[u8], count: usize, place: usize) -> ReadCode
+    ensures { λ r. ⌜ r ≡ readCoded (reading (now (bytes .entry)) count place) ⌝ }
+    ensures { λ r. ⌜ (r .number ≡ 0 → WritesBack (now (bytes .entry)) count place (r .content)) ⌝ }
+{
+    let found = codec::read(bytes, count, place);
+    let answer = found.answer;
+    let content = found.content;
+    let code = answers::answer_code(answer);
+    ReadCode {
+        number: code.number,
+        value: code.value,
+        content,
+    }
+}
+
+// Writes a record's string at a place, and answers the place after it. A refusal leaves every byte unchanged.
+#[no_mangle]
+pub extern "C" fn l1oc_write(bytes: &mut [u8], count: usize, place: usize, content: Record) -> Code
+    ensures { λ r. ⌜ r ≡ coded (writtenCode (writing (length (now (bytes .entry))) count place content)) ⌝ }
+    ensures { λ _. ⌜ now (bytes .exit) ≡ bytesAfter (writing (length (now (bytes .entry))) count place content) place content (now (bytes .entry)) ⌝ }
+    ensures { λ r. ⌜ (r .number ≡ 0 → ReadsBack (now (bytes .exit)) count place content) ⌝ }
+{
+    let answer = codec::write(bytes, count, place, content);
+    answers::written_code(answer)
+}
+
+// The value of a record's field by its number.
+#[no_mangle]
+pub extern "C" fn l1oc_scaled(content: Record, field: usize) -> ValueCode
+    ensures { λ r. ⌜ r ≡ valueCoded (valueCode (scaling content field)) ⌝ }
+    ensures { λ r. ⌜ (r .number ≡ 0 → IsScaled (countOf content field) (powerOf (content .kind) field) (r .scaled)) ⌝ }
+{
+    let answer = values::scaled(content, field);
+    value_code(answer)
+}
+
+// The centimetres of an accuracy factor.
+#[no_mangle]
+pub extern "C" fn l1oc_accuracy(factor: i64) -> Code
+    ensures { λ r. ⌜ r ≡ coded (accuracyCode (accuracy factor)) ⌝ }
+{
+    let answer = values::accuracy(factor);
+    answers::accuracy_code(answer)
+}
+
+// The days from 1 January 1996 to day `nt` of the four-year interval `n4`.
+#[no_mangle]
+pub extern "C" fn l1oc_day_count(n4: i64, nt: i64) -> Code
+    ensures { λ r. ⌜ r ≡ coded (dayCode (dayCount n4 nt)) ⌝ }
+{
+    let answer = values::day_count(n4, nt);
+    answers::day_code(answer)
+}

@@ -1,0 +1,141 @@
+/*
+ * l1oc.h: strings of the L1OCd signal for C99 and C++. Link with libl1oc.a (x86-64 Linux, `rt staticlib l1oc`).
+ *
+ * A recording is `length` lent bytes of which the first `count` bits count; the high bit of a byte comes first. Places count bits from 0. A string of
+ * type 1 has 125 bits, of type 2 375, of every other type 250.
+ *
+ * Every function answers for every value of its numbers. What is asked of the caller: a pointer leads to as many elements as the length beside it says,
+ * aligned as its type asks, and set; `bytes` and `list` share no memory; nobody else writes to them during the call. Where the length is 0
+ * nothing is read or written through the pointer, which may then be null. No function keeps a pointer, allocates, or has state of its own.
+ *
+ * Every answer has a number and a value. Number 0: done. Otherwise the first test that fails, and lent memory is left as it was:
+ *
+ *   number  value         when
+ *   1       0             count is above 524288
+ *   2       0             count is above 8 * length
+ *   3       place         place is above count
+ *   4       place         the bits at place are not the time mark
+ *   5       place         reading: fewer than 18 bits are left, or the string runs past count; writing: it would
+ *   6       place         the check fails
+ *   7       field         the first field that is out of its range, by its number (1 to 25); or as a function says below
+ *   8       10            type 20 with orbit (field 10) not 0
+ *   9       count needed  the list is too short
+ *   10      bit           the lowest bit of the minus-zero mark that is on an unsigned, absent or non-zero field
+ *   11      0             a number or a raw bit that the type does not use is not 0
+ */
+#ifndef L1OC_H
+#define L1OC_H
+
+#include <stddef.h>
+#include <stdint.h>
+
+#ifdef __cplusplus
+extern "C" {
+#endif
+
+/* An answer. */
+struct l1oc_answer {
+    uint64_t number; /* 0, or the number of a refusal */
+    uint64_t value;  /* what was asked for, or the value of the refusal */
+};
+
+/*
+ * A string by its fields. Fields 1 to 9 are the service fields, which every type has. Types 10, 11, 12, 20 and 25 have information fields, from 10 on;
+ * the other types have raw bits instead. What a type does not use is 0.
+ *
+ * Information fields with their power of two, where they have one:
+ *   type 10: 10 N4, 11 NT, 12 M, 13 frame size, 14 tb (90 s), 15 16 ages, 17 18 modes, 19 20 accuracy factors (signed) of ephemeris and clock,
+ *            21 tau -38, 22 gamma -48, 23 beta -57, 24 tau_c -31, 25 its rate -49
+ *   type 11: 10 11 12 x y z -20 (km), 13 x rate -30 (km/s), 14 15 antenna dx dy -10 (m), 16 reserve
+ *   type 12: 10 antenna dz -10 (m), 11 12 y and z rates -30 (km/s), 13 14 15 accelerations -39 (km/s^2), 16 L2 shift -38, 17 GPS shift -38, 18 reserve
+ *   type 20: 10 orbit, 11 Ns, 12 age EA, 13 day NA, 14 signals, 15 M, 16 tau -20, 17 lambda -20, 18 its time -5, 19 di -20, 20 eccentricity -20,
+ *            21 omega -15, 22 dT -9, 23 its rate -14, 24 reserve
+ *   type 25: 10 day, 11 12 xp yp -14, 13 14 their rates -14, 15 16 their accelerations -14, 17 B0 -16, 18 B1 -16, 19 B2 -16, 20 c_A -7, 21 c_F -4,
+ *            22 c_Ap, 23 UTC-TAI (signed), 24 reserve
+ */
+struct l1oc_record {
+    uint8_t kind;        /* field 1: the type, 0 to 63 */
+    uint8_t satellite;   /* field 2: satellite number j, 1 to 63; in type 20 the almanac's satellite */
+    uint8_t signal;      /* field 3: signal flag, 0 good */
+    uint8_t validity;    /* field 4: data flag, 0 good */
+    uint8_t call;        /* field 5: call, 0 to 15 */
+    uint8_t attitude;    /* field 6: attitude, 0 or 1 */
+    uint8_t correction;  /* field 7: correction code KP: 0 none, 1 day longer, 2 undecided, 3 day shorter */
+    uint8_t next;        /* field 8: A, 1 where the correction is at the end of the next string */
+    uint16_t time;       /* field 9: OMB, the time mark count in units of 2 s, 0 to 43199 */
+    int64_t numbers[16]; /* numbers[i]: field 10 + i, in counts; reserve fields too */
+    uint16_t minus;      /* minus-zero mark: bit i, the lowest is bit 0, where field 10 + i is minus zero; its number is 0 then */
+    uint8_t raw[38];     /* the raw bits of the other types, high bit first: 59 of type 1, 301 of type 2, else 184; then zeros */
+};
+
+/* What reading answers. */
+struct l1oc_reading {
+    uint64_t number;            /* 0, or the number of a refusal */
+    uint64_t value;             /* 0, or the value of the refusal */
+    struct l1oc_record content; /* the record; all 0 beside a refusal */
+};
+
+/* What scaling answers. */
+struct l1oc_value {
+    uint64_t number; /* 0, or the number of a refusal */
+    uint64_t value;  /* 0, or the value of the refusal */
+    double scaled;   /* the field's value; 0.0 beside a refusal */
+};
+
+/*
+ * Lists the starts of the strings in the first `count` bits. From place 0 on: where a string stands it is listed and the next place is just after it;
+ * elsewhere the next place is one bit on. A string stands where the mark is there, it fits in `count`, and its check passes.
+ *
+ * Gives 0 and how many starts there are. They are then the first entries of `list`, which has room for `room`; its other entries are left as they were.
+ * 4194 entries are enough for every recording. A refusal leaves the whole list as it was. `bytes` is only read.
+ * Refuses, in this order, with 1, 2, 9 (room is less than the starts that there are: the value).
+ */
+struct l1oc_answer l1oc_list(const uint8_t *bytes, size_t length, size_t count, uint32_t *list, size_t room);
+
+/*
+ * Reads the string at a place. `bytes` is only read.
+ *
+ * Gives 0, 0 and the record. Writing that record at the place gives the same bytes again.
+ * Refuses, in this order, with 1, 2, 3, 5 (fewer than 18 bits left), 4, 5 (runs past count), 6, 7, 8.
+ */
+struct l1oc_reading l1oc_read(const uint8_t *bytes, size_t length, size_t count, size_t place);
+
+/*
+ * Writes the string of a record at a place: its mark, fields and check bits.
+ *
+ * Gives 0 and the place after the string. It has set the string's bits and no others. Reading at the place gives the same record again.
+ * A refusal leaves every byte as it was.
+ * Refuses, in this order, with 1, 2, 3, 7, 8, 11, 10, 5.
+ */
+struct l1oc_answer l1oc_write(uint8_t *bytes, size_t length, size_t count, size_t place, struct l1oc_record content);
+
+/*
+ * The value of a field that has a power of two, by its number: exactly its count times that power. Minus zero gives plus zero.
+ *
+ * Gives 0, 0 and the value.
+ * Refuses, in this order, with 7, 8, 11, 10 for the record as writing does; then with 7 and `field` where that is the number of no field of the type, or
+ * of a field without a power.
+ */
+struct l1oc_value l1oc_scaled(struct l1oc_record content, size_t field);
+
+/*
+ * The centimetres of an accuracy factor (fields 19 and 20 of type 10).
+ *
+ * Gives 0 and the centimetres, 1 for -15 to 51200 for 14; and 0 for 15, which is undefined.
+ * Refuses with 7, 19 where the factor is not from -15 to 15.
+ */
+struct l1oc_answer l1oc_accuracy(int64_t factor);
+
+/*
+ * The days from 1 January 1996 to day NT, 1 to 1461, of the four-year interval N4, 1 to 31.
+ *
+ * Gives 0 and 1461 * (n4 - 1) + nt - 1.
+ * Refuses, in this order, with 7, 10 where n4 is out of its range, and 7, 11 where nt is.
+ */
+struct l1oc_answer l1oc_day_count(int64_t n4, int64_t nt);
+
+#ifdef __cplusplus
+}
+#endif
+
+#endif
