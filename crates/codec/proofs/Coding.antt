@@ -177,6 +177,13 @@ module _ (from kind minus : ℕ) (numbers : List ℤ) (u₀ : List Bool) where
                 ∙ ap (λ (p : List Bool). put at p u) (sym codes-here) ∙ c .filled;
           }
 
+  -- the same bits, or the same place, written in another way
+  pub gone-same : {u z : List Bool} {at marks i : ℕ} → z ≡ u → Gone u at marks i → Gone z at marks i
+  gone-same {u} {z} {at} {marks} {i} e g = subst (λ (p : List Bool). Gone p at marks i) (sym e) g
+
+  pub gone-at : {u : List Bool} {at to marks i : ℕ} → to ≡ at → Gone u at marks i → Gone u to marks i
+  gone-at {u} {at} {to} {marks} {i} e g = subst (λ (p : ℕ). Gone u p marks i) (sym e) g
+
   -- all sixteen
   pub gone-all : {u : List Bool} {at marks : ℕ} (i : ℕ) → Gone u at marks i → i ≡ 16 → u ≡ put from (codes (information kind) numbers (markBits 16 minus)) u₀
   unfolding codes

@@ -5,3 +5,4 @@ pub mod Refusing
 pub mod Whole
 pub mod Chain
 pub mod Strings
+pub mod Holding

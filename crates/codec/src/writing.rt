@@ -5,7 +5,7 @@ ghost use mathlib.Core.Bool.{true, false};
 ghost use Prim.Native.Nat.{_+_, _*_, _-_, _^_, _<_, _≤_};
 ghost use lib.IntN.{pos, natAbs};
 ghost use lib.ListN.{length};
-ghost use Rattle.bits.specs.Bits.{number, unpack, cut, put};
+ghost use Rattle.bits.specs.Bits.{number, bits, unpack, cut, put};
 ghost use Rattle.cyclic.specs.Register.{check};
 ghost use Rattle.format.specs.declared.Answer.the-variants.{Done};
 ghost use Rattle.format.specs.Fields.{total, codes};
@@ -13,7 +13,7 @@ ghost use Rattle.format.specs.Records.{ranges, unused, stray, markBits, fieldTe
 ghost use Rattle.format.specs.Strings.{lengthOf, generatorOf, checkBits};
 ghost use Rattle.format.specs.Types.{places, information};
 ghost use Rattle.format.specs.Writing.{serviceBits, string};
-ghost use Rattle.codec.specs.Coded.{codeOf};
+ghost use Rattle.codec.specs.Coded.{codeOf, afterHeld};
 
 // The bits of a number in a field of `width` bits, as a number.
 fn code(signed: bool, width: usize, v: i64, minus: bool) -> u64
@@ -26,6 +26,38 @@ fn code(signed: bool, width: usize, v: i64, minus: bool) -> u64
     v as u64
 }
 
+// Bits that are to be put from the place `at` on, as a number; they are held until more do not fit in a word.
+pub struct Held {
+    pub at: usize,
+    pub word: u64,
+    pub count: usize,
+}
+
+// Holds the `width` bits of `x` after those that are held; these are put first where there is no room beside them.
+fn hold(part: &mut [u8], held: Held, width: usize, x: u64) -> Held
+    requires { ⌜ (held .count ≤ 64) × (held .word < 2 ^ held .count) × (width ≤ 57) × (x < 2 ^ width) ⌝ }
+    requires { ⌜ (held .at + held .count + width ≤ 8 * length (now part)) × (held .at + held .count + width < 2 ^ 64) ⌝ }
+    ensures { λ r. ⌜ (r .at + r .count ≡ held .at + held .count + width) × (r .count ≤ 64) × (r .word < 2 ^ r .count) ⌝ }
+    ensures { λ r. ⌜ afterHeld r (unpack (now (part .exit))) ≡ put (held .at + held .count) (bits width x) (afterHeld held (unpack (now (part .entry)))) ⌝ }
+{
+    let at = held.at;
+    let word = held.word;
+    let count = held.count;
+    if count + width > 64 {
+        bits::put_field(part, at, count, word);
+        return Held {
+            at: at + count,
+            word: x,
+            count: width,
+        };
+    }
+    Held {
+        at,
+        word: (word << width) | x,
+        count: count + width,
+    }
+}
+
 // Puts the bits of a type's information fields from the place `from` on.
 fn put_numbers(part: &mut [u8], from: usize, kind: u8, numbers: [i64; 16], minus: u16)
     requires { ⌜ (from + total (information kind) ≤ 8 * length (now part)) × (from + total (information kind) < 2 ^ 64) ⌝ }
@@ -35,17 +67,21 @@ fn put_numbers(part: &mut [u8], from: usize, kind: u8, numbers: [i64; 16], minus
     let row = records::rows::row_of(kind);
     let widths = row.widths;
     let signs = row.signed;
-    let mut at = from;
+    let mut held = Held {
+        at: from,
+        word: 0,
+        count: 0,
+    };
     let mut marks = minus;
     let mut i: usize = 0;
     while i < 16 {
         let width = widths[i] as usize;
         let x = code(signs[i], width, numbers[i], marks % 2 == 1);
-        bits::put_field(part, at, width, x);
-        at += width;
+        held = hold(part, held, width, x);
         marks /= 2;
         i += 1;
     }
+    bits::put_field(part, held.at, held.count, held.word);
 }
 
 // The service bits of a record, bits 13 to 50, as a number.

@@ -1,8 +1,8 @@
 -- Laws of the tests of places that are not used and of the minus-zero mark. Assumes nothing.
 use mathlib.Core.Path.{_≡_, refl}
 use mathlib.Core.Bool.{Bool, true, false, cond, not, _&&_, _||_}
-use mathlib.Core.List.{List, _∷_}
-use Prim.Native.Nat.{ℕ, suc, _+_, _-_, _/_, _%_, _<_, _≤_}
+use mathlib.Core.List.{List, [], _∷_}
+use Prim.Native.Nat.{ℕ, zero, suc, _+_, _-_, _/_, _%_, _<_, _≤_}
 use native.Mathlib.Omega.{arith}
 use native.Mathlib.Numerals.{add-one}
 use lib.Dec.{eqb}
@@ -47,6 +47,15 @@ stray-cons : (f : Field) (fs : List Field) (v : ℤ) (vs : List ℤ) (k x n : �
     → stray (f ∷ fs) (v ∷ vs) (markBits (suc k) x) n ≡ cond (odd x && not (isSigned f && isZero v)) (Refused (MinusZero n)) (stray fs vs (markBits k (x / 2)) (suc n))
 unfolding stray markBits
 stray-cons f fs v vs k x n = rw (may-bear f v)
+
+-- ---- no mark
+
+pub stray-unmarked : (fs : List Field) (vs : List ℤ) (k n : ℕ) → stray fs vs (markBits k 0) n ≡ Done
+unfolding stray markBits
+stray-unmarked [] vs k n = refl
+stray-unmarked (f ∷ fs) [] k n = refl
+stray-unmarked (f ∷ fs) (v ∷ vs) zero n = refl
+stray-unmarked (f ∷ fs) (v ∷ vs) (suc k) n = stray-unmarked fs vs k (suc n)
 
 -- ---- past the last field
 

@@ -179,6 +179,16 @@ fn stray(kind: u8, numbers: [i64; 16], minus: u16) -> Answer
     Answer::Done
 }
 
+// The same, at once where there is no mark.
+fn marks_test(kind: u8, numbers: [i64; 16], minus: u16) -> Answer
+    ensures { λ a. ⌜ a ≡ stray (information kind) numbers (markBits places minus) 0 ⌝ }
+{
+    if minus == 0 {
+        return Answer::Done;
+    }
+    stray(kind, numbers, minus)
+}
+
 // Refused where a place that is not used, or a raw bit past the type's own, is not 0.
 fn zero_test(misplaced: bool, clear: bool) -> Answer
     ensures { λ a. ⌜ a ≡ when (misplaced || not clear) NotZero ⌝ }
@@ -202,6 +212,6 @@ pub fn record_tests(r: Record) -> Answer
     let fields = field_tests(r);
     let count = rows::raw_count(r.kind);
     let zeros = zero_test(unused(r.kind, numbers), bits::zero_from(&raw, count));
-    let marks = stray(r.kind, numbers, r.minus);
+    let marks = marks_test(r.kind, numbers, r.minus);
     first(fields, first(zeros, marks))
 }

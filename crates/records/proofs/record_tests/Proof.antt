@@ -35,8 +35,8 @@ zero-from-requires c κs =
 zero-test-requires : tie.Need-zero-test-requires
 zero-test-requires c κs = search needs
 
-stray-requires : tie.Need-stray-requires
-stray-requires c κs = search needs
+marks-test-requires : tie.Need-marks-test-requires
+marks-test-requires c κs = search needs
 
 first-requires : tie.Need-first-requires
 first-requires c κs = search needs
@@ -55,7 +55,7 @@ returns c =
     let raw = s .before .before .before .args .r .raw in
     let clear = f .zero-from .ensures ∙ ap (λ (n : ℕ). allZero (drop n (unpack raw))) (u .before .raw-count .ensures) in
     let zeros = z .zero-test .ensures ∙ ap₂ (λ (a b : Bool). when (a || not b) NotZero) (u .unused .ensures) clear in
-    c .first2 .ensures ∙ ap₂ _then_ (s .field-tests .ensures) (c .before .first .ensures ∙ ap₂ _then_ zeros (m .stray .ensures))
+    c .first2 .ensures ∙ ap₂ _then_ (s .field-tests .ensures) (c .before .first .ensures ∙ ap₂ _then_ zeros (m .marks-test .ensures))
 
 pub record-tests-spec : {M : Type 1} → statement M
 record-tests-spec =
@@ -67,7 +67,7 @@ record-tests-spec =
     slice-aggregate-zero-from
     zero-from-requires
     zero-test-requires
-    stray-requires
+    marks-test-requires
     first-requires
     first-requires-2
     returns)

@@ -1,24 +1,39 @@
--- `codec::writing::put_numbers`: what the loop has written when it has come to the place i. Assumes nothing.
-use mathlib.Core.Path.{_≡_}
-use Prim.Native.Nat.{_-_, _≤_, _<_}
+-- `codec::writing::put_numbers`: what the loop has written or holds when it has come to the place i. Assumes nothing.
+use mathlib.Core.Path.{_≡_, sym, ap, _∙_}
+use mathlib.Core.Bool.{Bool}
+use mathlib.Core.List.{List}
+use Prim.Native.Nat.{ℕ, _+_, _-_, _^_, _≤_, _<_}
 use native.Mathlib.Omega.{arith}
-use lib.ListN.{length}
+use lib.IntN.{ℤ, pos}
+use lib.ListN.{length, getD}
 use mir.Facts.{toZ-ofZ}
 use mir.Syntax.{w64}
+use mir.Val.{toZ, ofZ}
 use borrow.Author.Needs.{needs}
 use Rattle.bits.proofs.Bytes.{length-unpack}
 use Rattle.bits.specs.Bits.{unpack}
+use Rattle.bits.proofs.put_field.Reads as put-field-reads
+use Rattle.format.specs.Types.{information}
 use Rattle.records.proofs.Table.{width-at, sign-at}
-use Rattle.codec.proofs.Coding.{Gone, odd-seen, gone-start, room-here, width-here, code-asks, x-fits, gone-on, gone-all}
+use Rattle.records.proofs.rows.row_of.Reads as row-of-reads
+use Rattle.records.specs.Rows.{Describes}
+use Rattle.codec.proofs.Coding.{Gone, odd-seen, gone-start, room-here, width-here, code-asks, x-fits, gone-on, gone-same, gone-at, gone-all}
+use Rattle.codec.proofs.Holding.{held-length, held-none}
+use Rattle.codec.specs.Coded.{afterHeld}
+use Rattle.codec.proofs.writing.code.Reads as code-reads
+use Rattle.codec.proofs.writing.hold.Reads as hold-reads
+use Rattle.codec.proofs.writing.put_numbers.Lts as lts
+use Rattle.codec.proofs.writing.put_numbers.Reads as reads
 use Rattle.codec.proofs.writing.put_numbers.Statement.{statement}
 use Rattle.codec.proofs.writing.put_numbers.Tie as tie
 
 abbrev Inv-loop : tie.InvT-loop
-Inv-loop part₀ from kind minus numbers widths signs at₀ marks₀ i₀ part at marks i =
-    (i ≤ 16) × (length part ≡ length part₀) × Gone from kind minus numbers (unpack part₀) (unpack part) at marks i
+Inv-loop part₀ from kind minus numbers widths signs held₀ marks₀ i₀ part held marks i =
+    (i ≤ 16) × (length part ≡ length part₀) × (held .count ≤ 64) × (held .word < 2 ^ held .count)
+    × Gone from kind minus numbers (unpack part₀) (afterHeld held (unpack part)) (held .at + held .count) marks i
 
 abbrev μ-loop : tie.MeasureT-loop
-μ-loop part₀ from kind minus numbers widths signs at₀ marks₀ i₀ part at marks i = 16 - i
+μ-loop part₀ from kind minus numbers widths signs held₀ marks₀ i₀ part held marks i = 16 - i
 
 row-of-requires : tie.Need-row-of-requires Inv-loop μ-loop
 row-of-requires c κs = search needs
@@ -27,8 +42,16 @@ loop-holds : tie.Need-loop-holds Inv-loop μ-loop
 loop-holds c =
     let s = c .before .before .before .before in
     let a = s .args in
+    let u = unpack (a .part .now) in
     let l : length (a .t4) ≡ 16 = search needs in
-    (omega arith, search needs, gone-start (a .from) (a .kind) (a .minus) (a .t4) (unpack (a .part .now)) (omega (arith, length-unpack (a .part .now))) l (s .pre .1))
+    let g = gone-start (a .from) (a .kind) (a .minus) (a .t4) u (omega (arith, length-unpack (a .part .now))) l (s .pre .1) in
+    let there : a .from + 0 ≡ a .from = omega arith in (
+      omega arith,
+      search needs,
+      omega arith,
+      omega arith,
+      gone-at (a .from) (a .kind) (a .minus) (a .t4) u there (gone-same (a .from) (a .kind) (a .minus) (a .t4) u (held-none (a .from) u) g),
+    )
 
 array-read-width : tie.Need-array-read-width Inv-loop μ-loop
 array-read-width c = search needs
@@ -45,51 +68,42 @@ mul-code c = search needs
 array-copy-out-code : tie.Need-array-copy-out-code Inv-loop μ-loop
 array-copy-out-code c = search needs
 
+-- the place at hand
+module _ (k : lts.After-code-arg (row-of-reads.Asked, row-of-reads.Learnt, code-reads.Asked, code-reads.Learnt, hold-reads.Asked, hold-reads.Learnt, put-field-reads.Asked, put-field-reads.Learnt) reads.Pre reads.Post Inv-loop μ-loop) where
+  abbrev q : lts.At-loop (row-of-reads.Asked, row-of-reads.Learnt, code-reads.Asked, code-reads.Learnt, hold-reads.Asked, hold-reads.Learnt, put-field-reads.Asked, put-field-reads.Learnt) reads.Pre reads.Post Inv-loop μ-loop
+  q = k .before .before
+
+  abbrev s : lts.Start (row-of-reads.Asked, row-of-reads.Learnt, code-reads.Asked, code-reads.Learnt, hold-reads.Asked, hold-reads.Learnt, put-field-reads.Asked, put-field-reads.Learnt) reads.Pre reads.Post Inv-loop μ-loop
+  s = q .before .before .before .before .before
+
+  below : q .loop .i < 16
+  below = search needs
+
+  sixteen : length (s .args .t4) ≡ 16
+  sixteen = search needs
+
+  number-here : toZ w64 (ofZ w64 (getD (s .args .t4) (q .loop .i) (pos 0))) ≡ getD (s .args .t4) (q .loop .i) (pos 0)
+  number-here = toZ-ofZ {w = w64} (record { sfits = k .code-arg .given })
+
+  gone : Gone (s .args .from) (s .args .kind) (s .args .minus) (s .args .t4) (unpack (s .args .part .now)) (afterHeld (q .loop .held) (unpack (q .loop .part))) (q .loop .held .at + q .loop .held .count) (q .loop .marks) (q .loop .i)
+  gone = q .loop .inv .4
+
+  row : Describes (information (s .args .kind)) (q .before .before .before .row-of .result)
+  row = q .before .before .before .row-of .ensures
+
 code-requires : tie.Need-code-requires Inv-loop μ-loop
 code-requires c κs =
-    let q = c .before .before in
-    let s = q .before .before .before .before .before in
-    let a = s .args in
-    let d = q .before .before .before .row-of .ensures in
-    let i = q .loop .i in
-    let l : i < 16 = search needs in
-    let n : length (a .t4) ≡ 16 = search needs in
-    let v = toZ-ofZ {w = w64} (record { sfits = c .code-arg .given }) in
-    code-asks (a .from) (a .kind) (a .minus) (a .t4) (unpack (a .part .now)) i _ _ _ _ (q .loop .inv .2) l n (width-at d i) (sign-at d i) v (odd-seen (q .loop .marks))
+    let i = q c .loop .i in
+    code-asks (s c .args .from) (s c .args .kind) (s c .args .minus) (s c .args .t4) _ i _ _ _ _ (gone c) (below c) (sixteen c) (width-at (row c) i) (sign-at (row c) i) (number-here c) (odd-seen (q c .loop .marks))
 
-put-field-requires : tie.Need-put-field-requires Inv-loop μ-loop
-put-field-requires c κs =
+hold-requires : tie.Need-hold-requires Inv-loop μ-loop
+hold-requires c κs =
     let k = c .before .before in
-    let q = k .before .before in
-    let s = q .before .before .before .before .before in
-    let a = s .args in
-    let d = q .before .before .before .row-of .ensures in
-    let i = q .loop .i in
-    let l : i < 16 = search needs in
-    let n : length (a .t4) ≡ 16 = search needs in
-    let v = toZ-ofZ {w = w64} (record { sfits = k .code-arg .given }) in
-    let u = unpack (a .part .now) in
-    let ww = width-here (a .from) (a .kind) (a .minus) (a .t4) u i _ _ _ _ (q .loop .inv .2) l n (width-at d i) (sign-at d i) v (odd-seen (q .loop .marks)) in
-    let rr = room-here (a .from) (a .kind) (a .minus) (a .t4) u i _ _ _ _ (q .loop .inv .2) l n (width-at d i) (sign-at d i) v (odd-seen (q .loop .marks)) in (
-      omega (arith, ww),
-      x-fits (a .from) (a .kind) (a .minus) (a .t4) u i _ _ _ _ (q .loop .inv .2) l n (width-at d i) (sign-at d i) v (odd-seen (q .loop .marks)) _ (c .before .code .ensures),
-      omega (arith, rr),
-      omega (arith, rr),
-    )
-
-add-at : tie.Need-add-at Inv-loop μ-loop
-add-at c =
-    let k = c .before .before .before .before .before in
-    let q = k .before .before in
-    let s = q .before .before .before .before .before in
-    let a = s .args in
-    let d = q .before .before .before .row-of .ensures in
-    let i = q .loop .i in
-    let l : i < 16 = search needs in
-    let n : length (a .t4) ≡ 16 = search needs in
-    let v = toZ-ofZ {w = w64} (record { sfits = k .code-arg .given }) in
-    let rr = room-here (a .from) (a .kind) (a .minus) (a .t4) (unpack (a .part .now)) i _ _ _ _ (q .loop .inv .2) l n (width-at d i) (sign-at d i) v (odd-seen (q .loop .marks)) in
-    record { fits = omega (arith, rr) }
+    let i = q k .loop .i in
+    let ww = width-here (s k .args .from) (s k .args .kind) (s k .args .minus) (s k .args .t4) _ i _ _ _ _ (gone k) (below k) (sixteen k) (width-at (row k) i) (sign-at (row k) i) (number-here k) (odd-seen (q k .loop .marks)) in
+    let rr = room-here (s k .args .from) (s k .args .kind) (s k .args .minus) (s k .args .t4) _ i _ _ _ _ (gone k) (below k) (sixteen k) (width-at (row k) i) (sign-at (row k) i) (number-here k) (odd-seen (q k .loop .marks)) in
+    let xx = x-fits (s k .args .from) (s k .args .kind) (s k .args .minus) (s k .args .t4) _ i _ _ _ _ (gone k) (below k) (sixteen k) (width-at (row k) i) (sign-at (row k) i) (number-here k) (odd-seen (q k .loop .marks)) _ (c .before .code .ensures) in
+    ((q k .loop .inv .2, q k .loop .inv .3, omega (arith, ww), xx), (omega (arith, rr), omega (arith, rr)))
 
 add-i : tie.Need-add-i Inv-loop μ-loop
 add-i c = search needs
@@ -101,29 +115,27 @@ loop-again : tie.Need-loop-again Inv-loop μ-loop
 loop-again c =
     let f = c .before .before in
     let k = f .before .before .before in
-    let q = k .before .before in
-    let s = q .before .before .before .before .before in
-    let a = s .args in
-    let d = q .before .before .before .row-of .ensures in
-    let i = q .loop .i in
-    let l : i < 16 = search needs in
-    let n : length (a .t4) ≡ 16 = search needs in
-    let v = toZ-ofZ {w = w64} (record { sfits = k .code-arg .given }) in (
-      omega arith,
-      search needs,
-      gone-on (a .from) (a .kind) (a .minus) (a .t4) (unpack (a .part .now)) i _ _ _ _ (q .loop .inv .2) l n (width-at d i) (sign-at d i) v (odd-seen (q .loop .marks)) _
-          (f .before .before .code .ensures) _ (f .put-field .ensures),
-    )
+    let i = q k .loop .i in
+    let e = f .hold .ensures in
+    let on = gone-on (s k .args .from) (s k .args .kind) (s k .args .minus) (s k .args .t4) _ i _ _ _ _ (gone k) (below k) (sixteen k) (width-at (row k) i) (sign-at (row k) i) (number-here k) (odd-seen (q k .loop .marks)) _ (f .before .before .code .ensures) _ (e .1) in
+    (omega arith, search needs, e .0 .1, e .0 .2, gone-at (s k .args .from) (s k .args .kind) (s k .args .minus) (s k .args .t4) _ (e .0 .0) on)
+
+put-field-requires : tie.Need-put-field-requires Inv-loop μ-loop
+put-field-requires c κs =
+    let q = c .before .before in
+    let t = q .before .before .before .before .before in
+    let p = q .loop .inv .4 .place in
+    (q .loop .inv .2, q .loop .inv .3, omega (arith, t .pre .0 .0), omega (arith, t .pre .0 .1))
 
 same-length : tie.Need-same-length Inv-loop μ-loop
 same-length c = search needs
 
 returns : tie.Need-returns Inv-loop μ-loop
 returns c =
-    let q = c .before in
-    let s = q .before .before .before .before .before in
-    let a = s .args in
-    gone-all (a .from) (a .kind) (a .minus) (a .t4) (unpack (a .part .now)) (q .loop .i) (q .loop .inv .2) (omega arith)
+    let f = c .before .before in
+    let q = f .before .before .before in
+    let a = q .before .before .before .before .before .args in
+    f .put-field .ensures ∙ gone-all (a .from) (a .kind) (a .minus) (a .t4) (unpack (a .part .now)) (q .loop .i) (q .loop .inv .4) (omega arith)
 
 pub put-numbers-spec : {M : Type 1} → statement M
 put-numbers-spec =
@@ -139,10 +151,10 @@ put-numbers-spec =
     mul-code
     array-copy-out-code
     code-requires
-    put-field-requires
-    add-at
+    hold-requires
     add-i
     loop-less
     loop-again
+    put-field-requires
     same-length
     returns)
