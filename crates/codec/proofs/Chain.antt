@@ -42,9 +42,6 @@ string-fits u p e =
 
 -- ---- what reading answers
 module _ (s : List ℕ) (n p : ℕ) where
-  abbrev record-here : Record
-  record-here = recordAt (recorded s n) p
-
   answers : (a : Answer) → (placeTests (length s) n p then stringTests (recorded s n) p then fieldTests (recordAt (recorded s n) p)) ≡ a
       → reading s n p ≡ beside a (recordAt (recorded s n) p)
   unfolding reading

@@ -1,5 +1,5 @@
 -- Bits that are held until they fill a word. Assumes nothing.
-use mathlib.Core.Path.{_≡_, refl, sym, ap, ap₂, _∙_, subst}
+use mathlib.Core.Path.{_≡_, refl, sym, ap, ap₂, _∙_}
 use mathlib.Core.Bool.{Bool}
 use mathlib.Core.List.{List, _++_}
 use Prim.Native.Nat.{ℕ, _+_, _*_, _%_, _^_, _≤_, _<_}
@@ -10,8 +10,8 @@ use lib.Bits.{bitOr, or-shifted}
 use lib.ListN.{length}
 use lib.Pow.{shl-exact, pow-add, high, low}
 use Rattle.bits.specs.Bits.{number, bits, put}
-use Rattle.bits.proofs.Lists.{put-none, put-join, length-put}
-use Rattle.bits.proofs.Numbers.{length-bits, number-lt, number-append, number-back, bits-append, bits-mod}
+use Rattle.bits.proofs.Lists.{put-none, put-join}
+use Rattle.bits.proofs.Numbers.{length-bits, bits-append, bits-mod}
 use Rattle.codec.specs.Coded.{afterHeld}
 use Rattle.codec.specs.declared.writing.Held.{Held}
 
@@ -53,6 +53,3 @@ module _ (held : Held) (width x : ℕ) (u : List Bool) (few : width ≤ 57) (fit
 -- nothing is held at first
 pub held-none : (from : ℕ) (u : List Bool) → afterHeld (record { at = from; word = 0; count = 0 }) u ≡ u
 held-none from u = put-none from u
-
-pub held-length : (held : Held) (u : List Bool) → held .at + held .count ≤ length u → length (afterHeld held u) ≡ length u
-held-length held u h = length-put (held .at) (bits (held .count) (held .word)) u (omega (arith, length-bits (held .count) (held .word)))

@@ -11,11 +11,11 @@ use lib.ListN.{length, length-append, length-drop, take, drop}
 use lib.Pow.{pow-pos}
 use lib.Seq.{take-at, drop-at, take-add, length-take-le}
 use lib.Signed.{leZ}
-use borrow.Author.Tests.{eqb-true, ltb-true, leb-true, le-leb, not-false}
+use borrow.Author.Tests.{eqb-true, ltb-true, leb-true, not-false}
 use Rattle.bits.specs.Bits.{bit, odd}
 use Rattle.bits.specs.Signed.{signedOf, isMinusZero}
 use Rattle.bits.proofs.Numbers.{bit-odd, bit-lt, length-bits, number-back, bits-back}
-use Rattle.bits.proofs.SignLaws.{signed-back, mark-back, bits-signed, minus-zero-is-zero, signed-lt}
+use Rattle.bits.proofs.SignLaws.{signed-back, mark-back, bits-signed, minus-zero-is-zero}
 use Rattle.format.specs.declared.Answer.{Answer}
 use Rattle.format.specs.declared.Answer.the-variants.{Done, Refused}
 use Rattle.format.specs.declared.Refusal.{Refusal}
@@ -87,18 +87,6 @@ range-size w k (negsuc n) e =
     at : (m : ℕ) → leZ (negℤ (pos m)) (negsuc n) ≡ true → suc n ≤ m
     at zero e = absurd (false≢true e)
     at (suc m) e = omega (arith, leb-true n m e)
-
--- a number that a signed field's bits hold is in its range
-pub signed-in-range : (w k : ℕ) (p : List Bool) → length p ≡ w → inRange (signed w k) (signedOf p) ≡ true
-unfolding inRange
-signed-in-range w k p l =
-    within (2 ^ (w - 1) - 1) (signedOf p) (omega (arith, signed-lt p, ap (λ (n : ℕ). 2 ^ (n - 1)) l, pow-pos (w - 1)))
-  where
-    within : (m : ℕ) (v : ℤ) → natAbs v ≤ m → leZ (negℤ (pos m)) v && leZ v (pos m) ≡ true
-    within zero (pos n) h = ap₂ (λ (a b : Bool). a && b) (le-leb 0 n (omega arith)) (le-leb n 0 h)
-    within (suc m) (pos n) h = le-leb n (suc m) h
-    within zero (negsuc n) h = absurd (omega arith)
-    within (suc m) (negsuc n) h = ap (λ (a : Bool). a && true) (le-leb n m (omega arith))
 
 mark-zero : (v : ℤ) (m : Bool) → m && not (isZero v) ≡ false → m ≡ true → v ≡ pos 0
 mark-zero v true e h = zero-is v (not-false (isZero v) e)

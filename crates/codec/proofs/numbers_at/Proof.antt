@@ -1,16 +1,27 @@
 -- `codec::numbers_at`: what the loop has decoded when it has come to the place i. Assumes nothing.
-use mathlib.Core.Path.{refl, _∙_}
-use Prim.Native.Nat.{_-_, _≤_, _<_}
+use mathlib.Core.Path.{_≡_, refl, _∙_}
+use mathlib.Core.Bool.{Bool, true, false}
+use mathlib.Core.List.{List}
+use Prim.Native.Nat.{ℕ, _+_, _-_, _^_, _≤_, _<_}
 use native.Mathlib.Omega.{arith}
+use lib.ListN.{length, getD}
 use mir.Facts.{toZ-ofZ}
 use mir.Syntax.{w64}
 use borrow.Author.Needs.{needs}
 use Rattle.bits.proofs.Numbers.{number-cut-lt}
 use Rattle.bits.proofs.Bytes.{length-unpack}
-use Rattle.format.proofs.Information.{widths}
-use Rattle.bits.specs.Bits.{unpack}
+use Rattle.bits.proofs.field.Reads as field-reads
+use Rattle.bits.specs.Bits.{number, unpack, cut}
+use Rattle.format.specs.Fields.{total}
+use Rattle.format.specs.Types.{information}
 use Rattle.records.proofs.Table.{width-at, sign-at}
+use Rattle.records.proofs.rows.row_of.Reads as row-of-reads
+use Rattle.records.specs.Rows.{Describes}
 use Rattle.codec.proofs.Decoding.{Come, come-start, width-bound, sign-bound, field-fits, mark-fits, come-on, come-all}
+use Rattle.codec.proofs.mark_bit.Reads as mark-bit-reads
+use Rattle.codec.proofs.number_of.Reads as number-of-reads
+use Rattle.codec.proofs.numbers_at.Lts as lts
+use Rattle.codec.proofs.numbers_at.Reads as reads
 use Rattle.codec.proofs.numbers_at.Statement.{statement}
 use Rattle.codec.proofs.numbers_at.Tie as tie
 
@@ -35,29 +46,47 @@ cast-width c = search needs
 array-read-signed : tie.Need-array-read-signed Inv-loop μ-loop
 array-read-signed c = search needs
 
+-- the place at hand
+module _ (p : lts.In-loop (row-of-reads.Asked, row-of-reads.Learnt, field-reads.Asked, field-reads.Learnt, number-of-reads.Asked, number-of-reads.Learnt, mark-bit-reads.Asked, mark-bit-reads.Learnt) reads.Pre reads.Post Inv-loop μ-loop) where
+  abbrev q : lts.At-loop (row-of-reads.Asked, row-of-reads.Learnt, field-reads.Asked, field-reads.Learnt, number-of-reads.Asked, number-of-reads.Learnt, mark-bit-reads.Asked, mark-bit-reads.Learnt) reads.Pre reads.Post Inv-loop μ-loop
+  q = p .before
+
+  abbrev s : lts.Start (row-of-reads.Asked, row-of-reads.Learnt, field-reads.Asked, field-reads.Learnt, number-of-reads.Asked, number-of-reads.Learnt, mark-bit-reads.Asked, mark-bit-reads.Learnt) reads.Pre reads.Post Inv-loop μ-loop
+  s = q .before .before .before .before .before
+
+  abbrev u : List Bool
+  u = unpack (s .args .part .now)
+
+  below : q .loop .i < 16
+  below = search needs
+
+  row : Describes (information (s .args .kind)) (q .before .before .before .row-of .result)
+  row = q .before .before .before .row-of .ensures
+
+  abbrev w : ℕ
+  w = getD (q .before .before .before .row-of .result .widths) (q .loop .i) 0
+
+  -- the field is narrow, and lies in the part
+  narrow : w ≤ 40
+  narrow = width-bound u (s .args .from) (s .args .kind) (q .loop .i) below (width-at row (q .loop .i))
+
+  inside : q .loop .at + w ≤ s .args .from + total (information (s .args .kind))
+  inside = field-fits u (s .args .from) (s .args .kind) (q .loop .i) below (q .loop .inv .1) (width-at row (q .loop .i))
+
+  room : s .args .from + total (information (s .args .kind)) ≤ length u
+  room = omega (arith, length-unpack (s .args .part .now), s .pre .0)
+
+  signed-wide : getD (q .before .before .before .row-of .result .signed) (q .loop .i) false ≡ true → 2 ≤ w
+  signed-wide = sign-bound u (s .args .from) (s .args .kind) (q .loop .i) below (width-at row (q .loop .i)) (sign-at row (q .loop .i))
+
+  small : (x : ℕ) → x ≡ number (cut (q .loop .at) w u) → x < 2 ^ w
+  small x e = rw e (number-cut-lt (q .loop .at) w u (omega (arith, inside, room)))
+
 field-requires : tie.Need-field-requires Inv-loop μ-loop
-field-requires c κs =
-    let a = c .before in
-    let s = a .before .before .before .before .before in
-    let d = a .before .before .before .row-of .ensures in
-    let u = unpack (s .args .part .now) in
-    let i = a .loop .i in
-    let l : i < 16 = omega arith in
-    let ww = width-bound u (s .args .from) (s .args .kind) i l (width-at d i) in
-    let f = field-fits u (s .args .from) (s .args .kind) i l (a .loop .inv .1) (width-at d i) in
-    (omega arith, omega arith)
+field-requires c κs = (omega (arith, narrow c), omega (arith, inside c, s c .pre .0))
 
 number-of-requires : tie.Need-number-of-requires Inv-loop μ-loop
-number-of-requires c κs =
-    let a = c .before .before in
-    let s = a .before .before .before .before .before in
-    let d = a .before .before .before .row-of .ensures in
-    let u = unpack (s .args .part .now) in
-    let i = a .loop .i in
-    let l : i < 16 = omega arith in
-    let ww = width-bound u (s .args .from) (s .args .kind) i l (width-at d i) in
-    let f = field-fits u (s .args .from) (s .args .kind) i l (a .loop .inv .1) (width-at d i) in
-    (sign-bound u (s .args .from) (s .args .kind) i l (width-at d i) (sign-at d i), omega arith, rw (c .field .ensures) (number-cut-lt _ _ _ (omega (arith, length-unpack (s .args .part .now)))))
+number-of-requires c κs = let p = c .before in (signed-wide p, omega (arith, narrow p), small p _ (c .field .ensures))
 
 mul-numbers : tie.Need-mul-numbers Inv-loop μ-loop
 mul-numbers c = search needs
@@ -66,41 +95,18 @@ array-set-from-numbers : tie.Need-array-set-from-numbers Inv-loop μ-loop
 array-set-from-numbers c = search needs
 
 mark-bit-requires : tie.Need-mark-bit-requires Inv-loop μ-loop
-mark-bit-requires c κs =
-    let a = c .before .before .before in
-    let s = a .before .before .before .before .before in
-    let d = a .before .before .before .row-of .ensures in
-    let u = unpack (s .args .part .now) in
-    let i = a .loop .i in
-    let l : i < 16 = omega arith in
-    let ww = width-bound u (s .args .from) (s .args .kind) i l (width-at d i) in
-    let f = field-fits u (s .args .from) (s .args .kind) i l (a .loop .inv .1) (width-at d i) in
-    (sign-bound u (s .args .from) (s .args .kind) i l (width-at d i) (sign-at d i), omega arith, rw (c .before .field .ensures) (number-cut-lt _ _ _ (omega (arith, length-unpack (s .args .part .now)))), l)
+mark-bit-requires c κs = let p = c .before .before in (signed-wide p, omega (arith, narrow p), small p _ (c .before .field .ensures), below p)
 
 add-minus : tie.Need-add-minus Inv-loop μ-loop
 add-minus c =
-    let a = c .before .before .before .before in
-    let s = a .before .before .before .before .before in
-    let d = a .before .before .before .row-of .ensures in
-    let u = unpack (s .args .part .now) in
-    let i = a .loop .i in
-    let l : i < 16 = omega arith in
-    let ww = width-bound u (s .args .from) (s .args .kind) i l (width-at d i) in
-    let on = come-on u (s .args .from) (s .args .kind) i _ (c .before .before .field .result) _ _ _ (a .loop .inv .1) l (omega (arith, length-unpack (s .args .part .now))) (width-at d i) (sign-at d i)
+    let p = c .before .before .before in
+    let i = q p .loop .i in
+    let on = come-on (u p) (s p .args .from) (s p .args .kind) i _ (c .before .before .field .result) _ _ _ (q p .loop .inv .1) (below p) (room p) (width-at (row p) i) (sign-at (row p) i)
     (c .before .before .field .ensures) (c .before .number-of .ensures) (c .mark-bit .ensures) in
-    record { fits = mark-fits u (s .args .from) (s .args .kind) on }
+    record { fits = mark-fits (u p) (s p .args .from) (s p .args .kind) on }
 
 add-at : tie.Need-add-at Inv-loop μ-loop
-add-at c =
-    let a = c .before .before .before .before in
-    let s = a .before .before .before .before .before in
-    let d = a .before .before .before .row-of .ensures in
-    let u = unpack (s .args .part .now) in
-    let i = a .loop .i in
-    let l : i < 16 = omega arith in
-    let ww = width-bound u (s .args .from) (s .args .kind) i l (width-at d i) in
-    let f = field-fits u (s .args .from) (s .args .kind) i l (a .loop .inv .1) (width-at d i) in
-    omega arith
+add-at c = let p = c .before .before .before in record { fits = omega (arith, inside p, s p .pre .1) }
 
 add-i : tie.Need-add-i Inv-loop μ-loop
 add-i c = search needs
@@ -110,14 +116,9 @@ loop-less c = search needs
 
 loop-again : tie.Need-loop-again Inv-loop μ-loop
 loop-again c =
-    let a = c .before .before .before .before in
-    let s = a .before .before .before .before .before in
-    let d = a .before .before .before .row-of .ensures in
-    let u = unpack (s .args .part .now) in
-    let i = a .loop .i in
-    let l : i < 16 = omega arith in
-    let ww = width-bound u (s .args .from) (s .args .kind) i l (width-at d i) in
-    let on = come-on u (s .args .from) (s .args .kind) i _ (c .before .before .field .result) _ _ _ (a .loop .inv .1) l (omega (arith, length-unpack (s .args .part .now))) (width-at d i) (sign-at d i)
+    let p = c .before .before .before in
+    let i = q p .loop .i in
+    let on = come-on (u p) (s p .args .from) (s p .args .kind) i _ (c .before .before .field .result) _ _ _ (q p .loop .inv .1) (below p) (room p) (width-at (row p) i) (sign-at (row p) i)
     (c .before .before .field .ensures) (toZ-ofZ {w = w64} (record { sfits = c .before .number-of .ok }) ∙ c .before .number-of .ensures) (c .mark-bit .ensures) in
     (omega arith, on)
 

@@ -11,7 +11,6 @@ use Rattle.format.proofs.Information.{length-information}
 use Rattle.format.specs.Records.{ranges}
 use Rattle.format.specs.Types.{information}
 use Rattle.records.proofs.Laws.{row-takes, row-refuses, ranges-end}
-use Rattle.records.proofs.Table.{}
 use Rattle.records.proofs.number_ranges.Statement.{statement}
 use Rattle.records.proofs.number_ranges.Tie as tie
 

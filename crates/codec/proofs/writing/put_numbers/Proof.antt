@@ -1,10 +1,8 @@
 -- `codec::writing::put_numbers`: what the loop has written or holds when it has come to the place i. Assumes nothing.
-use mathlib.Core.Path.{_≡_, sym, ap, _∙_}
-use mathlib.Core.Bool.{Bool}
-use mathlib.Core.List.{List}
-use Prim.Native.Nat.{ℕ, _+_, _-_, _^_, _≤_, _<_}
+use mathlib.Core.Path.{_≡_, _∙_}
+use Prim.Native.Nat.{_+_, _-_, _^_, _≤_, _<_}
 use native.Mathlib.Omega.{arith}
-use lib.IntN.{ℤ, pos}
+use lib.IntN.{pos}
 use lib.ListN.{length, getD}
 use mir.Facts.{toZ-ofZ}
 use mir.Syntax.{w64}
@@ -18,7 +16,7 @@ use Rattle.records.proofs.Table.{width-at, sign-at}
 use Rattle.records.proofs.rows.row_of.Reads as row-of-reads
 use Rattle.records.specs.Rows.{Describes}
 use Rattle.codec.proofs.Coding.{Gone, odd-seen, gone-start, room-here, width-here, code-asks, x-fits, gone-on, gone-same, gone-at, gone-all}
-use Rattle.codec.proofs.Holding.{held-length, held-none}
+use Rattle.codec.proofs.Holding.{held-none}
 use Rattle.codec.specs.Coded.{afterHeld}
 use Rattle.codec.proofs.writing.code.Reads as code-reads
 use Rattle.codec.proofs.writing.hold.Reads as hold-reads
