@@ -10,7 +10,7 @@ use Rattle.format.specs.Reading.{reading}
 use Rattle.text.specs.Text.{numeral, row, comma, newline, Wrote}
 use Rattle.text.proofs.Numerals.{numeral-length, row-cons, row-length}
 use Rattle.text.proofs.Writing.{wrote-none, wrote-join, wrote-length}
-use Rattle.cuts.specs.Cuts.{cut, cuts}
+use Rattle.cuts.specs.Cuts.{countLine, cuts}
 
 -- A number and the byte after it are at most eleven bytes.
 pub number-length : (n end : ℕ) {at next : ℕ} {before after : List ℕ} → Wrote (numeral n ++ (end ∷ [])) at before after next → next ≤ at + 11
@@ -20,8 +20,8 @@ number-length n end w = omega (arith, w .placed, length-append (numeral n) (end 
 pub line-wrote : (bytes : List ℕ) (count : ℕ) {code at place next : ℕ} {before mid after : List ℕ}
     → code ≡ answerCode (reading bytes count 0 .answer) .0
     → Wrote (numeral count ++ (comma ∷ [])) at before mid place → Wrote (numeral code ++ (newline ∷ [])) place mid after next
-    → next ≤ length before → Wrote (cut bytes count) at before after next
-unfolding cut row
+    → next ≤ length before → Wrote (countLine bytes count) at before after next
+unfolding countLine row
 line-wrote bytes count {code} e v w h =
     let last : row (code ∷ []) ≡ numeral code ++ (newline ∷ []) = row-cons code [] ∙ append-nil (numeral code ++ (newline ∷ [])) in
     rw (← e, row-cons count (code ∷ []), last) (wrote-join v w h)
@@ -32,8 +32,8 @@ pub record Begun (bytes before : List ℕ) (count : ℕ) (out : List ℕ) (at : 
   pub few : at ≤ 22 * count
   pub same : length out ≡ length before
 
-cut-length : (bytes : List ℕ) (count : ℕ) → length (cut bytes count) ≤ 22
-unfolding cut
+cut-length : (bytes : List ℕ) (count : ℕ) → length (countLine bytes count) ≤ 22
+unfolding countLine
 cut-length bytes count = row-length (count ∷ answerCode (reading bytes count 0 .answer) .0 ∷ []) .1
 
 module _ (bytes before : List ℕ) where
@@ -42,7 +42,7 @@ module _ (bytes before : List ℕ) where
   begun-none = record { wrote = wrote-none 0 before; few = omega arith; same = refl }
 
   pub begun-more : (count : ℕ) (out : List ℕ) (at : ℕ) (after : List ℕ) (next : ℕ) → Begun bytes before count out at
-      → Wrote (cut bytes count) at out after next → 22 * (count + 1) ≤ length before → Begun bytes before (count + 1) after next
+      → Wrote (countLine bytes count) at out after next → 22 * (count + 1) ≤ length before → Begun bytes before (count + 1) after next
   unfolding cuts
   begun-more count out at after next b w h =
       let l = cut-length bytes count in

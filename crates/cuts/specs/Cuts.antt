@@ -6,10 +6,10 @@ use Rattle.format.specs.Reading.{reading}
 use Rattle.text.specs.Text.{row}
 
 -- The line of a bit count: the count, and reading's number at place 0 with it.
-unfoldable pub cut : List ℕ → ℕ → List ℕ
-cut bytes count = row (count ∷ answerCode (reading bytes count 0 .answer) .0 ∷ [])
+unfoldable pub countLine : List ℕ → ℕ → List ℕ
+countLine bytes count = row (count ∷ answerCode (reading bytes count 0 .answer) .0 ∷ [])
 
 -- The lines of the first counts, from 0 on.
 unfoldable pub cuts : List ℕ → ℕ → List ℕ
 cuts bytes zero = []
-cuts bytes (suc count) = cuts bytes count ++ cut bytes count
+cuts bytes (suc count) = cuts bytes count ++ countLine bytes count

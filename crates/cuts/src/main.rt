@@ -3,12 +3,12 @@
 ghost use Prim.Native.Nat.{_+_, _*_, _≤_};
 ghost use lib.ListN.{length};
 ghost use Rattle.text.specs.Text.{Wrote};
-ghost use Rattle.cuts.specs.Cuts.{cut, cuts};
+ghost use Rattle.cuts.specs.Cuts.{countLine, cuts};
 
 // Puts the line of a bit count at a place of the buffer, and answers the place after it.
 fn put_cut(rec: &[u8], count: usize, out: &mut [u8], at: usize) -> usize
     requires { ⌜ (count ≤ 250) × (at + 22 ≤ length (now out)) ⌝ }
-    ensures { λ r. ⌜ Wrote (cut (now (rec .entry)) count) at (now (out .entry)) (now (out .exit)) r ⌝ }
+    ensures { λ r. ⌜ Wrote (countLine (now (rec .entry)) count) at (now (out .entry)) (now (out .exit)) r ⌝ }
 {
     let reading = codec::read(rec, count, 0);
     let answer = reading.answer;
