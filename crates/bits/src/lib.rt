@@ -51,15 +51,6 @@ pub fn field(part: &[u8], from: usize, width: usize) -> u64
     v >> (8 * (more + 1) - skip - width)
 }
 
-// How many of the `left` bits from the place `at` on lie in its byte.
-fn in_byte(at: usize, left: usize) -> usize
-    requires { ⌜ 0 < left ⌝ }
-    ensures { λ r. ⌜ (0 < r) × (r ≤ left) × (at % 8 + r ≤ 8) ⌝ }
-{
-    let room = 8 - at % 8;
-    if left < room { left } else { room }
-}
-
 // The byte `b` with the `n` bits after its first `skip` made `c`.
 fn byte_with(b: u8, skip: usize, n: usize, c: u64) -> u8
     requires { ⌜ (skip + n ≤ 8) × (c < 2 ^ n) ⌝ }
@@ -72,21 +63,50 @@ fn byte_with(b: u8, skip: usize, n: usize, c: u64) -> u8
     y as u8
 }
 
-// Makes the `width` bits from the place `from` on those of `value`, and changes no other bit.
+// Makes the `n` bits after the first `skip` of the byte `i` those of `c`, and changes no other bit.
+fn put_in_byte(part: &mut [u8], i: usize, skip: usize, n: usize, c: u64)
+    requires { ⌜ (i < length (now part)) × (skip + n ≤ 8) × (c < 2 ^ n) ⌝ }
+    ensures { λ _. ⌜ unpack (now (part .exit)) ≡ put (8 * i + skip) (bits n c) (unpack (now (part .entry))) ⌝ }
+{
+    part[i] = byte_with(part[i], skip, n, c);
+}
+
+// Makes the `width` bits from the byte `first` on the low bits of `value`, and changes no other bit. Whole bytes are not read.
+fn put_bytes(part: &mut [u8], first: usize, width: usize, value: u64)
+    requires { ⌜ (width < 64) × (8 * first + width ≤ 8 * length (now part)) × (8 * first + width < 2 ^ 64) ⌝ }
+    ensures { λ _. ⌜ unpack (now (part .exit)) ≡ put (8 * first) (bits width value) (unpack (now (part .entry))) ⌝ }
+{
+    let mut i = first;
+    let mut left = width;
+    while left >= 8 {
+        left -= 8;
+        part[i] = low(value >> left, 8) as u8;
+        i += 1;
+    }
+    if left > 0 {
+        put_in_byte(part, i, 0, left, low(value, left));
+    }
+}
+
+// Makes the `width` bits from the place `from` on those of `value`, and changes no other bit: those in the first byte, then
+// those from the next byte on.
 pub fn put_field(part: &mut [u8], from: usize, width: usize, value: u64)
     requires { ⌜ (width ≤ 64) × (value < 2 ^ width) × (from + width ≤ 8 * length (now part)) × (from + width < 2 ^ 64) ⌝ }
     ensures { λ _. ⌜ unpack (now (part .exit)) ≡ put from (bits width value) (unpack (now (part .entry))) ⌝ }
 {
-    let mut done: usize = 0;
-    while done < width {
-        let at = from + done;
-        let left = width - done;
-        let n = in_byte(at, left);
-        let c = low(value >> (left - n), n);
-        let i = at / 8;
-        part[i] = byte_with(part[i], at % 8, n, c);
-        done += n;
+    if width == 0 {
+        return;
     }
+    let first = from / 8;
+    let skip = from % 8;
+    let room = 8 - skip;
+    if width <= room {
+        put_in_byte(part, first, skip, width, value);
+        return;
+    }
+    let left = width - room;
+    put_in_byte(part, first, skip, room, value >> left);
+    put_bytes(part, first + 1, left, value);
 }
 
 // The smaller of two.
@@ -173,15 +193,11 @@ pub fn zero_from(part: &[u8], from: usize) -> bool
     if first == part.len() {
         return true;
     }
-    if low(wide(part[first]), 8 - from % 8) != 0 {
-        return false;
-    }
+    let mut seen = low(wide(part[first]), 8 - from % 8) as u8;
     let mut i = first + 1;
     while i < part.len() {
-        if wide(part[i]) != 0 {
-            return false;
-        }
+        seen |= part[i];
         i += 1;
     }
-    true
+    seen == 0
 }
