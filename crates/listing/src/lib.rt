@@ -8,7 +8,7 @@ ghost use mathlib.Core.Logic.{_↔_};
 ghost use Prim.Native.Nat.{_+_, _*_, _^_, _<_, _≤_};
 ghost use lib.Dec.{ltb};
 ghost use lib.ListN.{length, set, take};
-ghost use Rattle.bits.specs.Bits.{unpack, recorded, cut, put};
+ghost use Rattle.bits.specs.Bits.{number, bits, unpack, recorded, cut, put};
 ghost use Rattle.cyclic.specs.Poly.{Divides};
 ghost use Rattle.cyclic.specs.Tables.{Table};
 ghost use Rattle.format.specs.Strings.{lengthOf, generatorOf};
@@ -16,20 +16,67 @@ ghost use Rattle.format.specs.Standing.{standing};
 ghost use Rattle.format.specs.Listing.{starts};
 ghost use Rattle.format.specs.Answers.{bitLimit};
 ghost use Rattle.format.specs.Demand3.{ListPromise};
-ghost use Rattle.listing.specs.Search.{NextMark, MarkFree};
+ghost use Rattle.listing.specs.Search.{NextMark, MarkFree, Hits};
 
-// Whether the mark is at none of the 46 places of a window of 57 bits. Bit 56 - j of `hits` is 1 where the bits from place j on are the mark
-// 010111110001: each term is the window or its complement, moved so that the bit that it must match comes to that place.
-fn mark_free(window: u64) -> bool
-    requires { ⌜ window < 2 ^ 57 ⌝ }
-    ensures { λ r. ⌜ (r ≡ true) ↔ MarkFree window ⌝ }
+// A byte as a wide number.
+fn wide(x: u8) -> u64
+    ensures { λ r. ⌜ (r ≡ x) × (r < 256) ⌝ }
 {
-    let w = window;
-    let n = !window;
-    let early = n & (w << 1) & (n << 2) & (w << 3) & (w << 4) & (w << 5);
-    let late = (w << 6) & (w << 7) & (n << 8) & (n << 9) & (n << 10) & (w << 11);
-    let hits = early & late;
-    (hits >> 11) % 0x4000_0000_0000 == 0
+    x as u64
+}
+
+// The number that the eight bits of the byte `i` make.
+fn byte_at(rec: &[u8], i: usize) -> u64
+    requires { ⌜ i < length (now rec) ⌝ }
+    ensures { λ r. ⌜ r ≡ number (cut (8 * i) 8 (unpack (now (rec .entry)))) ⌝ }
+{
+    wide(rec[i])
+}
+
+// Eight bytes from the byte `i` on as a number, the first byte the highest: in the form that is compiled to one load.
+fn word_at(rec: &[u8], i: usize) -> u64
+    requires { ⌜ i + 8 ≤ length (now rec) ⌝ }
+    ensures { λ r. ⌜ r ≡ number (cut (8 * i) 64 (unpack (now (rec .entry)))) ⌝ }
+{
+    let one = byte_at(rec, i + 7);
+    let two = (byte_at(rec, i + 6) << 8) | one;
+    let three = (byte_at(rec, i + 5) << 16) | two;
+    let four = (byte_at(rec, i + 4) << 24) | three;
+    let five = (byte_at(rec, i + 3) << 32) | four;
+    let six = (byte_at(rec, i + 2) << 40) | five;
+    let seven = (byte_at(rec, i + 1) << 48) | six;
+    (byte_at(rec, i) << 56) | seven
+}
+
+// The places of the mark 0101 1111 0001 in the 64 bits of a word, as ones at these places: `rise`, `ones` and `zeros` have a one where 01, 11
+// and 00 begin, and `first`, `second` and `third` where the mark's fours do.
+fn marks(word: u64) -> u64
+    ensures { λ r. ⌜ Hits (bits 64 word) 0 53 r ⌝ }
+{
+    let up = word << 1;
+    let rise = !word & up;
+    let ones = word & up;
+    let zeros = !word & !up;
+    let later = rise << 2;
+    let first = rise & later;
+    let second = ones & (ones << 2);
+    let third = zeros & later;
+    first & (second << 4) & (third << 8)
+}
+
+// A byte up to which no place from the byte `first` on has the mark: word by word, 48 places of each, as long as they have none.
+fn free_to(rec: &[u8], count: usize, first: usize) -> usize
+    requires { ⌜ (count < 2 ^ 32) × (count ≤ 8 * length (now rec)) × (8 * first ≤ count) ⌝ }
+    ensures { λ r. ⌜ (first ≤ r) × (8 * r ≤ count) × MarkFree (recorded (now (rec .entry)) count) (8 * first) (8 * r) ⌝ }
+{
+    let mut i = first;
+    while 8 * i + 64 <= count {
+        if marks(word_at(rec, i)) != 0 {
+            return i;
+        }
+        i += 6;
+    }
+    i
 }
 
 // The first place from `from` on with the mark, or the bit count, place by place.
@@ -47,18 +94,18 @@ fn mark_from(rec: &[u8], count: usize, from: usize) -> usize
     count
 }
 
-// The same, 46 places at a time where the mark is at none of them.
+// The same, word by word as long as the rest has a word.
 pub fn next_mark(rec: &[u8], count: usize, from: usize) -> usize
     requires { ⌜ (count < 2 ^ 32) × (count ≤ 8 * length (now rec)) × (from ≤ count) ⌝ }
     ensures { λ r. ⌜ NextMark (recorded (now (rec .entry)) count) from r ⌝ }
 {
     let mut p = from;
-    while p + 57 <= count {
-        let window = bits::field(rec, p, 57);
-        if !mark_free(window) {
-            return mark_from(rec, count, p);
+    while p + 64 <= count {
+        let hits = marks(word_at(rec, p / 8)) << (p % 8);
+        if hits != 0 {
+            return p + u64::leading_zeros(hits) as usize;
         }
-        p += 46;
+        p = 8 * free_to(rec, count, p / 8 + 6);
     }
     mark_from(rec, count, p)
 }
