@@ -5,7 +5,7 @@ use Prim.Native.Nat.{ℕ, zero, suc, _+_, _-_, _≤_, _<_}
 use native.Mathlib.Nat.{add-zero, zero-add, suc-add}
 use native.Mathlib.Omega.{arith}
 use lib.ListN.{length, length-append, length-take, length-drop, take, drop, drop-of-length-le, getD, set, take-append-drop}
-use lib.Seq.{set-split, take-add, drop-drop, take-take, take-append-le, drop-append-le, take-at, drop-at, getD-take, getD-drop, drop-cons, take-length, length-take-le}
+use lib.Seq.{set-split, take-add, drop-drop, take-take, take-append-le, drop-append-le, take-at, drop-at, drop-cons, take-length, length-take-le}
 use Rattle.bits.specs.Bits.{cut, put}
 
 module _ {A : Type 0} where
@@ -51,14 +51,6 @@ module _ {A : Type 0} where
   cut-left p n a b h =
       ap (take n) (drop-append-le p a b (omega arith)) ∙ take-append-le n (drop p a) b (simp length-drop (omega arith))
 
-  pub cut-right : (k p n : ℕ) (a b : List A) → length a ≡ k → cut (k + p) n (a ++ b) ≡ cut p n b
-  unfolding cut
-  cut-right k p n a b e = ap (take n) (sym (drop-drop p k (a ++ b)) ∙ ap (drop p) (drop-at a b k e))
-
-  pub getD-cut : (p n i : ℕ) (d : A) (l : List A) → i < n → getD (cut p n l) i d ≡ getD l (p + i) d
-  unfolding cut
-  getD-cut p n i d l h = getD-take n (drop p l) i d h ∙ getD-drop p l i d
-
   pub cut-one : (p : ℕ) (d : A) (l : List A) → p < length l → cut p 1 l ≡ getD l p d ∷ []
   unfolding cut
   cut-one p d l h = ap (take 1) (drop-cons l p d h)
@@ -100,26 +92,6 @@ module _ {A : Type 0} where
   cut-put p v l h =
       ap (take (length v)) (drop-at (take p l) (v ++ drop (p + length v) l) p (length-take-le p l h))
       ∙ take-at v (drop (p + length v) l) (length v) refl
-
-  -- other ranges are as they were
-  pub cut-put-before : (q n p : ℕ) (v l : List A) → q + n ≤ p → p ≤ length l → cut q n (put p v l) ≡ cut q n l
-  unfolding put
-  cut-put-before q n p v l h g =
-      let e : length (take p l) ≡ p = length-take-le p l g in
-      cut-left q n (take p l) (v ++ drop (p + length v) l) (omega arith)
-      ∙ sym (cut-left q n (take p l) (drop p l) (omega arith))
-      ∙ ap (cut q n) (take-append-drop p l)
-
-  pub cut-put-after : (q n p : ℕ) (v l : List A) → p + length v ≤ q → p + length v ≤ length l → cut q n (put p v l) ≡ cut q n l
-  unfolding put cut
-  cut-put-after q n p v l h g =
-      let m = p + length v in
-      let e : length (take p l ++ v) ≡ m = length-append (take p l) v ∙ ap (λ (k : ℕ). k + length v) (length-take-le p l (omega arith)) in
-      let f : q ≡ m + (q - m) = omega arith in
-      ap (λ (k : List A). take n (drop q k)) (sym (append-assoc (take p l) v (drop m l)))
-      ∙ ap (λ (k : ℕ). take n (drop k ((take p l ++ v) ++ drop m l))) f
-      ∙ ap (take n) (sym (drop-drop (q - m) m ((take p l ++ v) ++ drop m l)) ∙ ap (drop (q - m)) (drop-at (take p l ++ v) (drop m l) m e) ∙ drop-drop (q - m) m l)
-      ∙ ap (λ (k : ℕ). take n (drop k l)) (sym f)
 
   -- a range put, and then the range after it
   pub put-join : (p q : ℕ) (v w l : List A) → q ≡ p + length v → q + length w ≤ length l → put q w (put p v l) ≡ put p (v ++ w) l

@@ -8,7 +8,7 @@ ghost use mathlib.Core.Logic.{_↔_};
 ghost use Prim.Native.Nat.{_+_, _*_, _^_, _<_, _≤_};
 ghost use lib.Dec.{ltb};
 ghost use lib.ListN.{length, set, take};
-ghost use Rattle.bits.specs.Bits.{number, bits, unpack, recorded, cut, put};
+ghost use Rattle.bits.specs.Bits.{bits, unpack, recorded, cut, put};
 ghost use Rattle.cyclic.specs.Poly.{Divides};
 ghost use Rattle.cyclic.specs.Tables.{Table};
 ghost use Rattle.format.specs.Strings.{lengthOf, generatorOf};
@@ -17,36 +17,6 @@ ghost use Rattle.format.specs.Listing.{starts};
 ghost use Rattle.format.specs.Answers.{bitLimit};
 ghost use Rattle.format.specs.Demand3.{ListPromise};
 ghost use Rattle.listing.specs.Search.{NextMark, MarkFree, Hits};
-
-// A byte as a wide number.
-fn wide(x: u8) -> u64
-    ensures { λ r. ⌜ (r ≡ x) × (r < 256) ⌝ }
-{
-    x as u64
-}
-
-// The number that the eight bits of the byte `i` make.
-fn byte_at(rec: &[u8], i: usize) -> u64
-    requires { ⌜ i < length (now rec) ⌝ }
-    ensures { λ r. ⌜ r ≡ number (cut (8 * i) 8 (unpack (now (rec .entry)))) ⌝ }
-{
-    wide(rec[i])
-}
-
-// Eight bytes from the byte `i` on as a number, the first byte the highest: in the form that is compiled to one load.
-fn word_at(rec: &[u8], i: usize) -> u64
-    requires { ⌜ i + 8 ≤ length (now rec) ⌝ }
-    ensures { λ r. ⌜ r ≡ number (cut (8 * i) 64 (unpack (now (rec .entry)))) ⌝ }
-{
-    let one = byte_at(rec, i + 7);
-    let two = (byte_at(rec, i + 6) << 8) | one;
-    let three = (byte_at(rec, i + 5) << 16) | two;
-    let four = (byte_at(rec, i + 4) << 24) | three;
-    let five = (byte_at(rec, i + 3) << 32) | four;
-    let six = (byte_at(rec, i + 2) << 40) | five;
-    let seven = (byte_at(rec, i + 1) << 48) | six;
-    (byte_at(rec, i) << 56) | seven
-}
 
 // The places of the mark 0101 1111 0001 in the 64 bits of a word, as ones at these places: `rise`, `ones` and `zeros` have a one where 01, 11
 // and 00 begin, and `first`, `second` and `third` where the mark's fours do.
@@ -71,7 +41,7 @@ fn free_to(rec: &[u8], count: usize, first: usize) -> usize
 {
     let mut i = first;
     while 8 * i + 64 <= count {
-        if marks(word_at(rec, i)) != 0 {
+        if marks(bits::word_at(rec, i)) != 0 {
             return i;
         }
         i += 6;
@@ -101,7 +71,7 @@ pub fn next_mark(rec: &[u8], count: usize, from: usize) -> usize
 {
     let mut p = from;
     while p + 64 <= count {
-        let hits = marks(word_at(rec, p / 8)) << (p % 8);
+        let hits = marks(bits::word_at(rec, p / 8)) << (p % 8);
         if hits != 0 {
             return p + u64::leading_zeros(hits) as usize;
         }
