@@ -1,0 +1,180 @@
+//! That both sides give the same answers and leave the same memory, before they are measured.
+use crate::input::{self, Hour, Numbers, HOUR_BITS};
+use crate::record::Record;
+use crate::sides::{Library, Peer, Side};
+
+/// Compares both sides on the inputs, on damaged ones and at the limits. Stops at the first difference.
+pub fn check(hour: &Hour, noise: &[u8]) {
+    lists(&hour.bytes, HOUR_BITS);
+    lists(noise, 8 * noise.len());
+    for (&start, record) in hour.starts.iter().zip(&hour.records) {
+        assert_eq!(reads(&hour.bytes, HOUR_BITS, start), (0, *record));
+    }
+    for place in 0..8 * noise.len() + 2 {
+        reads(noise, 8 * noise.len(), place);
+    }
+    writes_hour(hour);
+    damaged(hour);
+    limits(noise);
+    let mut numbers = Numbers::new(3);
+    for _ in 0..20 {
+        for kind in 0..64 {
+            records(&mut numbers, kind);
+        }
+    }
+}
+
+/// Listing, with a list that is long enough, as long as needed, and too short.
+fn lists(bytes: &[u8], count: usize) {
+    let needed = list_into(bytes, count, 4194);
+    for room in [needed, needed.saturating_sub(1), 0] {
+        list_into(bytes, count, room);
+    }
+}
+
+fn list_into(bytes: &[u8], count: usize, room: usize) -> usize {
+    let (mut a, mut b) = (vec![u32::MAX; room], vec![u32::MAX; room]);
+    let answer = Library::list(bytes, count, &mut a);
+    assert_eq!(answer, Peer::list(bytes, count, &mut b), "list {room}");
+    assert_eq!(a, b, "list {room}");
+    answer.value as usize
+}
+
+fn reads(bytes: &[u8], count: usize, place: usize) -> (u64, Record) {
+    let reading = Library::read(bytes, count, place);
+    assert_eq!(reading, Peer::read(bytes, count, place), "read {place}");
+    (reading.number, reading.content)
+}
+
+fn writes(bytes: &[u8], count: usize, place: usize, record: &Record) -> (u64, Vec<u8>) {
+    let (mut a, mut b) = (bytes.to_vec(), bytes.to_vec());
+    let answer = Library::write(&mut a, count, place, *record);
+    let other = Peer::write(&mut b, count, place, *record);
+    assert_eq!(answer, other, "write {place} {record:?}");
+    assert_eq!(a, b, "write {place} {record:?}");
+    (answer.number, a)
+}
+
+/// Writes the hour over ones, string by string.
+fn writes_hour(hour: &Hour) {
+    let mut a = vec![0xFF; hour.bytes.len()];
+    let mut b = a.clone();
+    for (&start, record) in hour.starts.iter().zip(&hour.records) {
+        let answer = Library::write(&mut a, HOUR_BITS, start, *record);
+        assert_eq!(answer, Peer::write(&mut b, HOUR_BITS, start, *record));
+        assert_eq!(answer.number, 0);
+        assert!(a == b, "write {start}");
+    }
+}
+
+/// Damages the hour, then lists and reads it.
+fn damaged(hour: &Hour) {
+    let mut numbers = Numbers::new(4);
+    for _ in 0..20 {
+        let mut bytes = hour.bytes.clone();
+        for _ in 0..numbers.within(1, 400) {
+            let place = numbers.within(0, HOUR_BITS as i64 - 1) as usize;
+            bytes[place / 8] ^= 0x80 >> (place % 8);
+        }
+        let count = HOUR_BITS - numbers.within(0, 400) as usize;
+        lists(&bytes, count);
+        for &start in &hour.starts {
+            reads(&bytes, count, start);
+        }
+    }
+}
+
+/// Bit counts and places at and past their limits.
+fn limits(noise: &[u8]) {
+    let record = input::random_record(&mut Numbers::new(5), 10);
+    let long = [noise, &[0; 8]].concat();
+    for count in [524_288, 524_289, usize::MAX] {
+        lists(&long, count);
+        for place in [0, count.wrapping_sub(250), count, count.wrapping_add(1)] {
+            reads(&long, count, place);
+            writes(&long, count, place, &record);
+        }
+    }
+    for length in 0..64usize {
+        for count in [
+            0,
+            8 * length,
+            (8 * length).saturating_sub(3),
+            8 * length + 1,
+        ] {
+            lists(&long[..length], count);
+            for place in 0..count + 2 {
+                reads(&long[..length], count, place);
+                writes(&long[..length], count, place, &record);
+            }
+        }
+    }
+}
+
+/// A record of a type at each bit of a byte, good and spoilt, written and read back.
+fn records(numbers: &mut Numbers, kind: u8) {
+    for offset in 0..8 {
+        let bytes: Vec<u8> = (0..56).map(|_| numbers.next() as u8).collect();
+        let record = input::random_record(numbers, kind);
+        let (number, written) = writes(&bytes, 448, offset, &record);
+        assert_eq!(number, 0);
+        assert_eq!(reads(&written, 448, offset), (0, record));
+        for _ in 0..10 {
+            let spoilt = spoil(numbers, record);
+            writes(&bytes, 448, offset, &spoilt);
+        }
+    }
+    out_of_range(numbers, kind);
+}
+
+/// A record with one place changed.
+fn spoil(numbers: &mut Numbers, mut r: Record) -> Record {
+    let (byte, i) = (numbers.next() as u8, numbers.within(0, 15) as usize);
+    match numbers.within(0, 13) {
+        0 => r.kind = byte,
+        1 => r.satellite = byte,
+        2 => r.signal = byte % 4,
+        3 => r.validity = byte % 4,
+        4 => r.call = byte,
+        5 => r.attitude = byte % 4,
+        6 => r.correction = byte % 8,
+        7 => r.next = byte % 4,
+        8 => r.time = numbers.next() as u16,
+        9 => r.numbers[i] = numbers.next() as i64 >> numbers.within(0, 63),
+        10 => r.numbers[i] = i64::MIN,
+        11 => r.minus ^= 1 << i,
+        12 => r.raw[numbers.within(0, 37) as usize] ^= 1 << (byte % 8),
+        _ => r.numbers[i] = 1,
+    }
+    r
+}
+
+/// Strings whose check passes with random fields, so that reading meets 7 and 8.
+fn out_of_range(numbers: &mut Numbers, kind: u8) {
+    for _ in 0..20 {
+        let mut bytes = [0; 64];
+        for byte in &mut bytes {
+            *byte = numbers.next() as u8;
+        }
+        let raw_type = if kind == 1 || kind == 2 { kind } else { 0 };
+        let mut record = input::random_record(numbers, raw_type);
+        record.satellite = 1;
+        let (_, mut written) = writes(&bytes, 512, 0, &record);
+        // The service fields are changed by multiples of the generator, so that the check still passes.
+        for place in 12..34 {
+            if numbers.within(0, 1) == 1 {
+                flip_generator(&mut written, place);
+            }
+        }
+        reads(&written, 512, 0);
+    }
+}
+
+/// Adds the 16-bit generator, its highest power at a place.
+fn flip_generator(bytes: &mut [u8], place: usize) {
+    for i in 0..17 {
+        if 0x16F63 >> (16 - i) & 1 == 1 {
+            bytes[(place + i) / 8] ^= 0x80 >> ((place + i) % 8);
+        }
+    }
+}

@@ -1,0 +1,53 @@
+//! The peer: listing, reading and writing as one would write them in safe Rust for speed, without proof.
+mod bits;
+mod check;
+pub mod layout;
+mod read;
+mod search;
+mod tests;
+mod write;
+
+pub use read::read;
+pub use search::list;
+pub use write::write;
+
+use crate::record::Answer;
+
+/// The most bits of a recording.
+const LIMIT: usize = 524_288;
+
+/// The time mark, 12 bits.
+const MARK: u64 = 0x5F1;
+
+/// Tests 1 and 2.
+fn recording_tests(bytes: &[u8], count: usize) -> Result<(), Answer> {
+    if count > LIMIT {
+        return Err(Answer::new(1, 0));
+    }
+    if count.div_ceil(8) > bytes.len() {
+        return Err(Answer::new(2, 0));
+    }
+    Ok(())
+}
+
+/// Tests 1, 2 and 3.
+fn place_tests(bytes: &[u8], count: usize, place: usize) -> Result<(), Answer> {
+    recording_tests(bytes, count)?;
+    if place > count {
+        return Err(Answer::new(3, place));
+    }
+    Ok(())
+}
+
+/// Whether the check of the string of a type at a place passes.
+fn check_passes(bytes: &[u8], place: usize, kind: u8) -> bool {
+    let end = place + layout::length(kind);
+    let first = place / 8;
+    let part = &bytes[first..end.div_ceil(8)];
+    let (offset, end) = (place % 8, end - 8 * first);
+    if kind == 2 {
+        check::divides::<24>(&check::TABLE24, part, offset, end)
+    } else {
+        check::divides::<16>(&check::TABLE16, part, offset, end)
+    }
+}
