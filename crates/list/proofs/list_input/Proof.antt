@@ -1,4 +1,4 @@
--- `list::main`: what is printed fits the buffer. Assumes nothing.
+-- `list::list_input`: what is printed fits the buffer. Assumes nothing.
 use mathlib.Core.List.{List}
 use mathlib.Core.Path.{_≡_}
 use Prim.Native.Nat.{ℕ, _≤_}
@@ -8,8 +8,8 @@ use borrow.Author.Needs.{needs}
 use Rattle.text.specs.Text.{Wrote}
 use Rattle.text.proofs.Writing.{wrote-length}
 use Rattle.report.proofs.Found.{report-length}
-use Rattle.list.proofs.main.Statement.{statement}
-use Rattle.list.proofs.main.Tie as tie
+use Rattle.list.proofs.list_input.Statement.{statement}
+use Rattle.list.proofs.list_input.Tie as tie
 
 fits : {text before after : List ℕ} {next room : ℕ} → Wrote text 0 before after next → length text ≤ room → length before ≡ room → next ≤ length after
 fits w h l = omega (arith, w .placed, wrote-length w (omega (arith, w .placed)))
@@ -47,11 +47,20 @@ part-write-all-end c = fits (c .before .before .report .ensures) (report-length 
 write-all-requires : tie.Need-write-all-requires
 write-all-requires c κs = search needs
 
+slice-aggregate-complain : tie.Need-slice-aggregate-complain
+slice-aggregate-complain c = search needs
+
+complain-requires : tie.Need-complain-requires
+complain-requires c κs = search needs
+
 returns : tie.Need-returns
 returns c = search needs
 
-pub main-spec : {M : Type 1} → statement M
-main-spec =
+returns-2 : tie.Need-returns-2
+returns-2 c = search needs
+
+pub list-input-spec : {M : Type 1} → statement M
+list-input-spec =
     tie.close
     (tie.spec
     slice-aggregate-read-full
@@ -65,4 +74,7 @@ main-spec =
     part-write-all-start
     part-write-all-end
     write-all-requires
-    returns)
+    slice-aggregate-complain
+    complain-requires
+    returns
+    returns-2)
