@@ -1,7 +1,7 @@
 //! That both sides give the same answers and leave the same memory, before they are measured.
 use crate::input::{self, Hour, Numbers, HOUR_BITS};
-use crate::record::Record;
 use crate::sides::{Library, Peer, Side};
+use l1oc::Record;
 
 /// Compares both sides on the inputs, on damaged ones and at the limits. Stops at the first difference.
 pub fn check(hour: &Hour, noise: &[u8]) {

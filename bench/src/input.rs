@@ -1,6 +1,6 @@
 //! The inputs, from fixed seeds: an hour of strings, and noise.
 use crate::peer::{self, layout};
-use crate::record::Record;
+use l1oc::Record;
 
 /// An hour and its leap second at 125 bit/s.
 pub const HOUR_BITS: usize = 450_125;

@@ -3,7 +3,6 @@ mod agree;
 mod input;
 mod measure;
 mod peer;
-mod record;
 mod sides;
 
 use measure::{Bench, ROWS};

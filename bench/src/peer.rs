@@ -11,7 +11,7 @@ pub use read::read;
 pub use search::list;
 pub use write::write;
 
-use crate::record::Answer;
+use l1oc::Answer;
 
 /// The most bits of a recording.
 const LIMIT: usize = 524_288;
@@ -19,13 +19,21 @@ const LIMIT: usize = 524_288;
 /// The time mark, 12 bits.
 const MARK: u64 = 0x5F1;
 
+/// A number and its value.
+fn answer(number: u64, value: usize) -> Answer {
+    Answer {
+        number,
+        value: value as u64,
+    }
+}
+
 /// Tests 1 and 2.
 fn recording_tests(bytes: &[u8], count: usize) -> Result<(), Answer> {
     if count > LIMIT {
-        return Err(Answer::new(1, 0));
+        return Err(answer(1, 0));
     }
     if count.div_ceil(8) > bytes.len() {
-        return Err(Answer::new(2, 0));
+        return Err(answer(2, 0));
     }
     Ok(())
 }
@@ -34,7 +42,7 @@ fn recording_tests(bytes: &[u8], count: usize) -> Result<(), Answer> {
 fn place_tests(bytes: &[u8], count: usize, place: usize) -> Result<(), Answer> {
     recording_tests(bytes, count)?;
     if place > count {
-        return Err(Answer::new(3, place));
+        return Err(answer(3, place));
     }
     Ok(())
 }

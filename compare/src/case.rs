@@ -1,7 +1,7 @@
 //! One call with its input, and everything that it leaves behind.
 
-use crate::record::{Answer, Record};
 use crate::{plain, proved};
+use l1oc::{Answer, Record};
 
 /// A call of the codec with its input.
 #[derive(Clone)]
@@ -95,7 +95,7 @@ impl Case {
                 number: 0,
                 value: 0,
             },
-            record: Record::ZERO,
+            record: Record::BLANK,
             scaled: 0,
             bytes: Vec::new(),
             list: Vec::new(),
@@ -123,7 +123,7 @@ impl Case {
             }
             Case::Read { count, place, .. } => {
                 let reading = plain::read(inner(bytes), *count, *place);
-                outcome.record = reading.unwrap_or(Record::ZERO);
+                outcome.record = reading.unwrap_or(Record::BLANK);
                 answer(reading.map(|_| 0))
             }
             Case::Write {
@@ -158,14 +158,14 @@ impl Case {
                 place,
                 record,
                 ..
-            } => proved::write(inner(bytes), *count, *place, record),
+            } => l1oc::write(inner(bytes), *count, *place, *record),
             Case::Scaled { record, field } => {
                 let (answer, scaled) = proved::scaled(record, *field);
                 outcome.scaled = scaled.to_bits();
                 answer
             }
-            Case::Accuracy { factor } => proved::accuracy(*factor),
-            Case::DayCount { n4, nt } => proved::day_count(*n4, *nt),
+            Case::Accuracy { factor } => l1oc::accuracy(*factor),
+            Case::DayCount { n4, nt } => l1oc::day_count(*n4, *nt),
         };
     }
 

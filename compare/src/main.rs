@@ -11,7 +11,6 @@ mod make;
 mod plain;
 mod proved;
 mod random;
-mod record;
 mod run;
 mod shrink;
 

@@ -2,7 +2,7 @@
 
 use crate::plain::{self, check, table};
 use crate::random::Random;
-use crate::record::Record;
+use l1oc::Record;
 
 /// The types that have fields of their own.
 pub const WITH_FIELDS: [u8; 5] = [10, 11, 12, 20, 25];
@@ -22,7 +22,7 @@ pub fn record(random: &mut Random, kind: u8) -> Record {
         correction: random.below(4) as u8,
         next: random.below(2) as u8,
         time: random.between(0, 43199) as u16,
-        ..Record::ZERO
+        ..Record::BLANK
     };
     let fields = table::information(kind).unwrap_or_default();
     for (place, field) in fields.iter().enumerate() {

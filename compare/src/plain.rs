@@ -5,7 +5,7 @@ pub mod check;
 pub mod table;
 pub mod value;
 
-use crate::record::{Answer, Record};
+use l1oc::{Answer, Record};
 use table::Field;
 
 /// "Bit count above 524,288."
@@ -134,7 +134,7 @@ fn take(string: &str, kind: u8) -> Record {
         correction: service[6] as u8,
         next: service[7] as u8,
         time: service[8] as u16,
-        ..Record::ZERO
+        ..Record::BLANK
     };
     if let Some(fields) = table::information(kind) {
         for (place, field) in fields.iter().enumerate() {

@@ -2,8 +2,8 @@
 
 use crate::case::{Case, Outcome, Side, GUARD};
 use crate::random::Random;
-use crate::record::Record;
 use crate::shrink::shrink;
+use l1oc::Record;
 use std::collections::{BTreeMap, BTreeSet};
 use std::process::exit;
 

@@ -2,7 +2,7 @@
 
 use crate::case::Case;
 use crate::make::set;
-use crate::record::Record;
+use l1oc::Record;
 
 /// No more tries than this.
 const TRIES: usize = 4000;

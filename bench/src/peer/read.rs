@@ -1,6 +1,6 @@
 //! Reading the string at a place.
-use super::{bits, check_passes, layout, place_tests, tests, MARK};
-use crate::record::{Answer, Reading, Record};
+use super::{answer, bits, check_passes, layout, place_tests, tests, MARK};
+use l1oc::{Answer, Reading, Record};
 
 /// Reads the string at a place.
 pub fn read(bytes: &[u8], count: usize, place: usize) -> Reading {
@@ -13,7 +13,11 @@ pub fn read(bytes: &[u8], count: usize, place: usize) -> Reading {
         .and_then(|kind| decode(bytes, place, kind, &mut reading.content));
     match done {
         Ok(()) => reading,
-        Err(refusal) => Reading::refused(refusal),
+        Err(Answer { number, value }) => Reading {
+            number,
+            value,
+            content: Record::BLANK,
+        },
     }
 }
 
@@ -21,18 +25,18 @@ pub fn read(bytes: &[u8], count: usize, place: usize) -> Reading {
 fn string_tests(bytes: &[u8], count: usize, place: usize) -> Result<u8, Answer> {
     place_tests(bytes, count, place)?;
     if count - place < 18 {
-        return Err(Answer::new(5, place));
+        return Err(answer(5, place));
     }
     let head = bits::field(bytes, place, 18);
     if head >> 6 != MARK {
-        return Err(Answer::new(4, place));
+        return Err(answer(4, place));
     }
     let kind = (head & 63) as u8;
     if count - place < layout::length(kind) {
-        return Err(Answer::new(5, place));
+        return Err(answer(5, place));
     }
     if !check_passes(bytes, place, kind) {
-        return Err(Answer::new(6, place));
+        return Err(answer(6, place));
     }
     Ok(kind)
 }

@@ -1,6 +1,6 @@
 //! Listing: the places of the time mark, 48 at a time, and the strings that stand there.
-use super::{bits, check_passes, layout, recording_tests, MARK};
-use crate::record::Answer;
+use super::{answer, bits, check_passes, layout, recording_tests, MARK};
+use l1oc::Answer;
 
 /// Lists the starts of the strings in the first `count` bits.
 pub fn list(bytes: &[u8], count: usize, list: &mut [u32]) -> Answer {
@@ -16,7 +16,7 @@ pub fn list(bytes: &[u8], count: usize, list: &mut [u32]) -> Answer {
     if list.len() < count / 125 {
         let needed = strings.clone().count();
         if list.len() < needed {
-            return Answer::new(9, needed);
+            return answer(9, needed);
         }
     }
     let mut found = 0;
@@ -24,7 +24,7 @@ pub fn list(bytes: &[u8], count: usize, list: &mut [u32]) -> Answer {
         list[found] = start as u32;
         found += 1;
     }
-    Answer::new(0, found)
+    answer(0, found)
 }
 
 /// The starts of a recording's strings from a place on.

@@ -1,12 +1,13 @@
 //! The tests of a record: 7, 8, 11, 10.
+use super::answer;
 use super::layout::{self, Field};
-use crate::record::{Answer, Record};
+use l1oc::{Answer, Record};
 
 /// Test 7 of field `number`.
 #[inline]
 pub fn range(number: usize, value: i64, least: i64, most: i64) -> Result<(), Answer> {
     if value < least || value > most {
-        return Err(Answer::new(7, number));
+        return Err(answer(7, number));
     }
     Ok(())
 }
@@ -20,7 +21,7 @@ pub fn record_tests(r: &Record, fields: &[Field]) -> Result<(), Answer> {
     orbit_test(r)?;
     let unused = &r.numbers[fields.len()..];
     if unused.iter().any(|&v| v != 0) || !raw_clear(r) {
-        return Err(Answer::new(11, 0));
+        return Err(answer(11, 0));
     }
     minus_test(r, fields)
 }
@@ -46,7 +47,7 @@ fn service_ranges(r: &Record) -> Result<(), Answer> {
 /// Test 8.
 pub fn orbit_test(r: &Record) -> Result<(), Answer> {
     if r.kind == 20 && r.numbers[0] != 0 {
-        return Err(Answer::new(8, 10));
+        return Err(answer(8, 10));
     }
     Ok(())
 }
@@ -69,7 +70,7 @@ fn minus_test(r: &Record, fields: &[Field]) -> Result<(), Answer> {
         let bit = marks.trailing_zeros() as usize;
         match fields.get(bit) {
             Some(field) if field.signed && r.numbers[bit] == 0 => marks &= marks - 1,
-            _ => return Err(Answer::new(10, bit)),
+            _ => return Err(answer(10, bit)),
         }
     }
     Ok(())

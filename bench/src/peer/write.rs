@@ -1,12 +1,12 @@
 //! Writing a record as a string.
 use super::bits::{self, Writer};
-use super::{check, layout, place_tests, tests, MARK};
-use crate::record::{Answer, Record};
+use super::{answer, check, layout, place_tests, tests, MARK};
+use l1oc::{Answer, Record};
 
 /// Writes the string of a record at a place.
 pub fn write(bytes: &mut [u8], count: usize, place: usize, r: &Record) -> Answer {
     match write_string(bytes, count, place, r) {
-        Ok(next) => Answer::new(0, next),
+        Ok(next) => answer(0, next),
         Err(refusal) => refusal,
     }
 }
@@ -17,7 +17,7 @@ fn write_string(bytes: &mut [u8], count: usize, place: usize, r: &Record) -> Res
     tests::record_tests(r, fields)?;
     let length = layout::length(r.kind);
     if count - place < length {
-        return Err(Answer::new(5, place));
+        return Err(answer(5, place));
     }
     let (offset, end) = (place % 8, place + length);
     let mut string = encode(offset, r, fields);

@@ -3,8 +3,8 @@
 use crate::case::{Case, Outcome, Side};
 use crate::make;
 use crate::plain::{self, check, LIMIT};
-use crate::record::{Answer, Record};
 use crate::run::Run;
+use l1oc::{Answer, Record};
 
 pub fn run(run: &mut Run) {
     widths(run);
@@ -35,7 +35,7 @@ fn empty(kind: u8) -> Record {
     let mut record = Record {
         kind,
         satellite: 5,
-        ..Record::ZERO
+        ..Record::BLANK
     };
     for (place, field) in plain::table::information(kind).iter().flatten().enumerate() {
         record.numbers[place] = field.low.max(0);
@@ -173,7 +173,7 @@ fn listing(run: &mut Run) {
         correction,
         next,
         time,
-        ..Record::ZERO
+        ..Record::BLANK
     });
     for side in [Side::Plain, Side::Proved] {
         let mut bytes = vec![0; 79];

@@ -3,8 +3,8 @@
 use crate::make;
 use crate::plain::table;
 use crate::random::Random;
-use crate::record::Record;
 use crate::run::Run;
+use l1oc::Record;
 
 /// A record that passes, or one spoiled in up to four places.
 fn record(random: &mut Random) -> Record {

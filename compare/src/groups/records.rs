@@ -2,8 +2,8 @@
 
 use crate::make::{self, SHAPES};
 use crate::plain::table::{self, Field};
-use crate::record::Record;
 use crate::run::Run;
+use l1oc::Record;
 
 /// Writes the record where it fits and where it does not, and scales its fields.
 pub fn write_and_scale(run: &mut Run, record: &Record) {

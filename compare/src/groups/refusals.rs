@@ -3,8 +3,8 @@
 
 use crate::make;
 use crate::plain::{self, table, LIMIT};
-use crate::record::Record;
 use crate::run::Run;
+use l1oc::Record;
 
 /// A recording of random bits that ends with the text at its bit count, which lies above the
 /// limit (1) and above the bytes (2) where asked.

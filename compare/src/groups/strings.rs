@@ -2,8 +2,8 @@
 
 use crate::make::{self, SHAPES, WITH_FIELDS};
 use crate::plain::{self, table};
-use crate::record::Record;
 use crate::run::Run;
+use l1oc::Record;
 
 /// Writes a valid record into random bytes at the place, reads it back and lists the recording.
 fn there_and_back(run: &mut Run, record: &Record, place: usize) {

@@ -1,7 +1,7 @@
 //! Scaled values, the accuracy factor and the day count.
 
 use super::{record_passes, refuse, table};
-use crate::record::{Answer, Record};
+use l1oc::{Answer, Record};
 
 /// A field as its count times its power of two. The digits of the f64 are set one by one.
 pub fn scaled(record: &Record, field: usize) -> Result<f64, Answer> {

@@ -1,0 +1,133 @@
+//! The C interface for Rust: the types and functions of `include/l1oc.h`, which says what each gives.
+
+/// An answer: 0 and the value asked for, or the number of a refusal and its value.
+#[repr(C)]
+#[derive(Clone, Copy, Debug, PartialEq, Eq)]
+pub struct Answer {
+    pub number: u64,
+    pub value: u64,
+}
+
+/// A string by its fields.
+#[repr(C)]
+#[derive(Clone, Copy, Debug, PartialEq, Eq)]
+pub struct Record {
+    pub kind: u8,
+    pub satellite: u8,
+    pub signal: u8,
+    pub validity: u8,
+    pub call: u8,
+    pub attitude: u8,
+    pub correction: u8,
+    pub next: u8,
+    pub time: u16,
+    pub numbers: [i64; 16],
+    pub minus: u16,
+    pub raw: [u8; 38],
+}
+
+impl Record {
+    /// The record with every place 0.
+    pub const BLANK: Self = Self {
+        kind: 0,
+        satellite: 0,
+        signal: 0,
+        validity: 0,
+        call: 0,
+        attitude: 0,
+        correction: 0,
+        next: 0,
+        time: 0,
+        numbers: [0; 16],
+        minus: 0,
+        raw: [0; 38],
+    };
+}
+
+/// What reading answers: the record, or a refusal beside a blank one.
+#[repr(C)]
+#[derive(Clone, Copy, Debug, PartialEq, Eq)]
+pub struct Reading {
+    pub number: u64,
+    pub value: u64,
+    pub content: Record,
+}
+
+/// What scaling answers: the value, or a refusal beside 0.0.
+#[repr(C)]
+#[derive(Clone, Copy, Debug, PartialEq)]
+pub struct Value {
+    pub number: u64,
+    pub value: u64,
+    pub scaled: f64,
+}
+
+/// The functions as C declares them.
+pub mod c {
+    use super::{Answer, Reading, Record, Value};
+
+    extern "C" {
+        pub fn l1oc_list(
+            bytes: *const u8,
+            length: usize,
+            count: usize,
+            list: *mut u32,
+            room: usize,
+        ) -> Answer;
+        pub fn l1oc_read(bytes: *const u8, length: usize, count: usize, place: usize) -> Reading;
+        pub fn l1oc_write(
+            bytes: *mut u8,
+            length: usize,
+            count: usize,
+            place: usize,
+            content: Record,
+        ) -> Answer;
+        pub fn l1oc_scaled(content: Record, field: usize) -> Value;
+        pub fn l1oc_accuracy(factor: i64) -> Answer;
+        pub fn l1oc_day_count(n4: i64, nt: i64) -> Answer;
+    }
+}
+
+#[inline(always)]
+pub fn list(bytes: &[u8], count: usize, list: &mut [u32]) -> Answer {
+    // SAFETY: both slices are lent whole, with their lengths.
+    unsafe {
+        c::l1oc_list(
+            bytes.as_ptr(),
+            bytes.len(),
+            count,
+            list.as_mut_ptr(),
+            list.len(),
+        )
+    }
+}
+
+#[inline(always)]
+pub fn read(bytes: &[u8], count: usize, place: usize) -> Reading {
+    // SAFETY: the slice is lent whole, with its length.
+    unsafe { c::l1oc_read(bytes.as_ptr(), bytes.len(), count, place) }
+}
+
+#[inline(always)]
+pub fn write(bytes: &mut [u8], count: usize, place: usize, content: Record) -> Answer {
+    // SAFETY: the slice is lent whole, with its length.
+    unsafe { c::l1oc_write(bytes.as_mut_ptr(), bytes.len(), count, place, content) }
+}
+
+#[inline(always)]
+pub fn scaled(content: Record, field: usize) -> Value {
+    // SAFETY: everything goes by value.
+    unsafe { c::l1oc_scaled(content, field) }
+}
+
+#[inline(always)]
+pub fn accuracy(factor: i64) -> Answer {
+    // SAFETY: everything goes by value.
+    unsafe { c::l1oc_accuracy(factor) }
+}
+
+#[inline(always)]
+pub fn day_count(n4: i64, nt: i64) -> Answer {
+    // SAFETY: everything goes by value.
+    unsafe { c::l1oc_day_count(n4, nt) }
+}
