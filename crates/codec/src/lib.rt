@@ -11,11 +11,11 @@ ghost use mathlib.Core.Bool.{true};
 ghost use mathlib.Core.Logic.{_↔_};
 ghost use Prim.Native.Nat.{ℕ, _+_, _*_, _^_, _<_, _≤_};
 ghost use lib.Dec.{ltb};
-ghost use lib.ListN.{length, drop};
-ghost use Rattle.bits.specs.Bits.{unpack, recorded, cut};
+ghost use lib.ListN.{length, drop, replicate};
+ghost use Rattle.bits.specs.Bits.{unpack, recorded, cut, put, pack};
 ghost use Rattle.cyclic.specs.Poly.{Divides};
 ghost use Rattle.format.specs.Answers.{bitLimit, when};
-ghost use Rattle.format.specs.Records.{blank};
+ghost use Rattle.format.specs.Records.{rawBytes, blank};
 ghost use Rattle.codec.specs.Decoded.{numberOf, markBit, Holds};
 ghost use Rattle.format.specs.Fields.{total};
 ghost use Rattle.format.specs.Reading.{recordAt, placeTests, stringTests, beside, reading};
@@ -80,6 +80,19 @@ fn numbers_at(part: &[u8], from: usize, kind: u8) -> Numbers
     Numbers { numbers, minus }
 }
 
+// The record's raw bytes from the `n` bits from the place `from` on; most types have none.
+fn raw_at(part: &[u8], from: usize, n: usize) -> [u8; 38]
+    requires { ⌜ (n ≤ 301) × (from + n ≤ 8 * length (now part)) × (from + n < 2 ^ 63) ⌝ }
+    ensures { λ r. ⌜ r ≡ put 0 (pack (cut from n (unpack (now (part .entry))))) (replicate rawBytes 0) ⌝ }
+{
+    let mut raw = [0u8; 38];
+    if n == 0 {
+        return raw;
+    }
+    bits::pack_bits(&mut raw, part, from, n);
+    raw
+}
+
 // The record of the string at the place `offset`, whose bits the part holds.
 fn decoded(part: &[u8], offset: usize) -> Record
     requires { ⌜ (offset < 8) × (offset + lengthOf (typeAt (unpack (now part)) offset) ≤ 8 * length (now part)) ⌝ }
@@ -90,8 +103,7 @@ fn decoded(part: &[u8], offset: usize) -> Record
     let fields = numbers_at(part, offset + 50, kind);
     let numbers = fields.numbers;
     let minus = fields.minus;
-    let mut raw = [0u8; 38];
-    bits::pack_bits(&mut raw, part, offset + 50, records::rows::raw_count(kind));
+    let raw = raw_at(part, offset + 50, records::rows::raw_count(kind));
     Record {
         kind,
         satellite: ((service >> 26) % 64) as u8,

@@ -116,6 +116,17 @@ fn check(part: &[u8], offset: usize, count: usize, kind: u8) -> u32
     cyclic::table_check(part, offset, count, &table, 0x16F63, 16)
 }
 
+// Puts the first `n` raw bits from the place `to` on; most types have none.
+fn put_raw(part: &mut [u8], to: usize, raw: [u8; 38], n: usize)
+    requires { ⌜ (n ≤ 301) × (to + n ≤ 8 * length (now part)) × (to + n < 2 ^ 64) ⌝ }
+    ensures { λ _. ⌜ unpack (now (part .exit)) ≡ put to (cut 0 n (unpack raw)) (unpack (now (part .entry))) ⌝ }
+{
+    if n == 0 {
+        return;
+    }
+    bits::copy_bits(part, to, &raw, 0, n);
+}
+
 // Puts the string of a record at the place `offset`.
 pub fn put_string(part: &mut [u8], offset: usize, r: Record)
     requires { ⌜ (offset < 8) × (offset + lengthOf (r .kind) ≤ 8 * length (now part)) × (recordTests r ≡ Done) ⌝ }
@@ -129,7 +140,7 @@ pub fn put_string(part: &mut [u8], offset: usize, r: Record)
     let n = records::rows::raw_count(kind);
     bits::put_field(part, offset, 50, (0x5F1 << 38) + service(r));
     put_numbers(part, offset + 50, kind, numbers, r.minus);
-    bits::copy_bits(part, offset + count - n, &raw, 0, n);
+    put_raw(part, offset + count - n, raw, n);
     let c = check(part, offset, count, kind);
     bits::put_field(part, offset + count, degree, c as u64);
 }

@@ -45,25 +45,25 @@ numbers-at-requires c κs =
     let r = fields-room u o h in
     (omega arith, omega (arith, length-unit (typeAt u o), string-filled (typeAt u o)))
 
-slice-aggregate-pack-bits : tie.Need-slice-aggregate-pack-bits
-slice-aggregate-pack-bits c = search needs
-
-add-pack-bits : tie.Need-add-pack-bits
-add-pack-bits c = search needs
+add-raw-at : tie.Need-add-raw-at
+add-raw-at c = search needs
 
 raw-count-requires : tie.Need-raw-count-requires
 raw-count-requires c κs = search needs
 
-pack-bits-requires : tie.Need-pack-bits-requires
-pack-bits-requires c κs =
-    let s = c .before .before .before .before .before .before in
+raw-at-requires : tie.Need-raw-at-requires
+raw-at-requires c κs =
+    let s = c .before .before .before .before .before in
     let o = s .args .offset in
     let u = unpack (s .args .part .now) in
     let l = length-unpack (s .args .part .now) in
     let h : o + lengthOf (typeAt u o) ≤ length u = omega (arith, s .pre .1) in
-    let k = c .raw-count .ensures ∙ ap rawCount (kind-is u o h _ (c .before .before .before .before .field .ensures)) in
+    let k = c .raw-count .ensures ∙ ap rawCount (kind-is u o h _ (c .before .before .before .field .ensures)) in
     let r = raw-room u o h in
     (omega (arith, raw-few (typeAt u o)), omega arith, omega (arith, raw-few (typeAt u o)))
+
+cast-t13 : tie.Need-cast-t13
+cast-t13 c = search needs
 
 cast-t16 : tie.Need-cast-t16
 cast-t16 c = search needs
@@ -83,22 +83,19 @@ cast-t28 c = search needs
 cast-t31 : tie.Need-cast-t31
 cast-t31 c = search needs
 
-cast-t34 : tie.Need-cast-t34
-cast-t34 c = search needs
-
-cast-t36 : tie.Need-cast-t36
-cast-t36 c = search needs
+cast-t33 : tie.Need-cast-t33
+cast-t33 c = search needs
 
 returns : tie.Need-returns
 returns c =
-    let s = c .before .before .before .before .before .before .before .before in
+    let n = c .before .before .before in
+    let s = n .before .before .before in
     let o = s .args .offset in
     let u = unpack (s .args .part .now) in
     let l = length-unpack (s .args .part .now) in
     let h : o + lengthOf (typeAt u o) ≤ length u = omega (arith, s .pre .1) in
-    decoded-is u o h _ (c .before .before .before .before .before .before .field .ensures) _ _ _ _ refl (c .before .before .before .before .before .numbers-at .ensures .numbers) (c .before .before .before .before .before .numbers-at .ensures .mark)
-    (c .before .pack-bits .ensures
-    ∙ ap (λ (n : ℕ). put 0 (pack (cut (o + 50) n u)) (replicate rawBytes 0)) (c .before .before .raw-count .ensures))
+    decoded-is u o h _ (n .before .field .ensures) _ _ _ _ refl (n .numbers-at .ensures .numbers) (n .numbers-at .ensures .mark)
+    (c .raw-at .ensures ∙ ap (λ (k : ℕ). put 0 (pack (cut (o + 50) k u)) (replicate rawBytes 0)) (c .before .raw-count .ensures))
 
 pub decoded-spec : {M : Type 1} → statement M
 decoded-spec =
@@ -109,16 +106,15 @@ decoded-spec =
     cast-kind
     add-numbers-at
     numbers-at-requires
-    slice-aggregate-pack-bits
-    add-pack-bits
+    add-raw-at
     raw-count-requires
-    pack-bits-requires
+    raw-at-requires
+    cast-t13
     cast-t16
     cast-t19
     cast-t22
     cast-t25
     cast-t28
     cast-t31
-    cast-t34
-    cast-t36
+    cast-t33
     returns)
