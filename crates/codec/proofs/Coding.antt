@@ -1,6 +1,6 @@
 -- What the loop over a type's places has written. Assumes nothing.
 use mathlib.Core.Path.{_≡_, refl, sym, ap, ap₂, _∙_, subst}
-use mathlib.Core.Bool.{Bool, true, false, true≢false, false≢true}
+use mathlib.Core.Bool.{Bool, true, false, true≢false, false≢true, and-eq-true-iff}
 use mathlib.Core.List.{List, [], _∷_, _++_}
 use Prim.Native.Nat.{ℕ, zero, suc, _+_, _-_, _/_, _%_, _^_, _≤_, _<_}
 use native.Mathlib.Numerals.{add-one}
@@ -19,7 +19,6 @@ use Rattle.format.specs.Records.{markBits, ranges, unused, stray}
 use Rattle.format.specs.Types.{information}
 use Rattle.format.proofs.Information.{length-information, widths}
 use Rattle.format.proofs.FieldLaws.{sound, takes, strays, allSound, information-sound, length-code, value-code, Fits, fits, length-markBits}
-use Rattle.records.proofs.Table.{both}
 use Rattle.codec.specs.Coded.{codeOf}
 
 -- ---- one field
@@ -72,7 +71,7 @@ length-fit : {fs : List Field} {vs : List ℤ} {ms : List Bool} → allSound fs 
 unfolding codes
 length-fit g Fits.end = refl
 length-fit g (Fits.next {f} {v} {m} {fs} {vs} {ms} i s t) =
-    let b = both (sound f) g in
+    let b = and-eq-true-iff (sound f) _ .0 g in
     omega (arith, length-append (code f v m) (codes fs vs ms), length-code f v m (b .0), length-fit (b .1) t)
 
 -- ---- the loop
@@ -123,7 +122,7 @@ module _ (from kind minus : ℕ) (numbers : List ℤ) (u₀ : List Bool) where
     here = fit-head (fit-same fields-here numbers-here marks-here (c .fit))
 
     sounds : (sound f ≡ true) × (allSound (drop (i + 1) fields) ≡ true)
-    sounds = both (sound f) (ap allSound (sym fields-here) ∙ c .strong)
+    sounds = and-eq-true-iff (sound f) _ .0 (ap allSound (sym fields-here) ∙ c .strong)
 
     -- the field lies in the bits
     pub room-here : at + w ≤ from + total (information kind)

@@ -143,10 +143,10 @@ fn check_passes(part: &[u8], offset: usize, count: usize, kind: u64) -> bool
 {
     if kind == 2 {
         let table = cyclic::tables::table24();
-        return cyclic::table_divides(part, offset, count, &table, 0x1864CFB, 24);
+        return cyclic::table_divides(part, offset, count, &table, cyclic::tables::GENERATOR24, 24);
     }
     let table = cyclic::tables::table16();
-    cyclic::table_divides(part, offset, count, &table, 0x16F63, 16)
+    cyclic::table_divides(part, offset, count, &table, cyclic::tables::GENERATOR16, 16)
 }
 
 // The tests 5 (18 bits), 4, 5, 6 of the string at a place, from only the bytes that it covers.
@@ -161,7 +161,7 @@ fn string_tests(rec: &[u8], count: usize, place: usize) -> Answer
     let offset = place % 8;
     let part = &rec[first..];
     let head = bits::field(part, offset, 18);
-    if head / 64 != 0x5F1 {
+    if head / 64 != format::MARK {
         return Answer::Refused(Refusal::NoMark(place));
     }
     let kind = head % 64;

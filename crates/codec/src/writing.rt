@@ -110,10 +110,10 @@ fn check(part: &[u8], offset: usize, count: usize, kind: u8) -> u32
 {
     if kind == 2 {
         let table = cyclic::tables::table24();
-        return cyclic::table_check(part, offset, count, &table, 0x1864CFB, 24);
+        return cyclic::table_check(part, offset, count, &table, cyclic::tables::GENERATOR24, 24);
     }
     let table = cyclic::tables::table16();
-    cyclic::table_check(part, offset, count, &table, 0x16F63, 16)
+    cyclic::table_check(part, offset, count, &table, cyclic::tables::GENERATOR16, 16)
 }
 
 // Puts the first `n` raw bits from the place `to` on; most types have none.
@@ -138,7 +138,7 @@ pub fn put_string(part: &mut [u8], offset: usize, r: Record)
     let degree = check_count(kind);
     let count = listing::length_of(kind as u64) - degree;
     let n = records::rows::raw_count(kind);
-    bits::put_field(part, offset, 50, (0x5F1 << 38) + service(r));
+    bits::put_field(part, offset, 50, (format::MARK << 38) + service(r));
     put_numbers(part, offset + 50, kind, numbers, r.minus);
     put_raw(part, offset + count - n, raw, n);
     let c = check(part, offset, count, kind);

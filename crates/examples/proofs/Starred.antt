@@ -1,6 +1,6 @@
 -- The starred examples hold: one test over all rows, and one theorem. Assumes nothing.
 use mathlib.Core.Path.{_≡_, refl, ap}
-use mathlib.Core.Bool.{Bool, true, false, _&&_, Bool·beq, false≢true}
+use mathlib.Core.Bool.{Bool, true, false, _&&_, Bool·beq, false≢true, and-eq-true-iff}
 use mathlib.Core.List.{List, [], _∷_}
 use Prim.Native.Nat.{ℕ}
 use lib.IntN.{ℤ, pos, negsuc}
@@ -20,14 +20,6 @@ use Rattle.format.specs.Writing.{writing, writeTests}
 use Rattle.format.specs.Listing.{scan, starts}
 use Rattle.examples.specs.Starred.{Example, checkIs, signedIs, listingIs, testIs, readingIs, writingIs, daysIs, listingOf, readingOf, writingOf, onlyOne, Says, rows, sameInt, holds, allHold, Each}
 
-and-left : (a b : Bool) → a && b ≡ true → a ≡ true
-and-left true b e = refl
-and-left false b e = e
-
-and-right : (a b : Bool) → a && b ≡ true → b ≡ true
-and-right true b e = e
-and-right false b e = absurd (false≢true e)
-
 same-int : (x y : ℤ) → sameInt x y ≡ true → x ≡ y
 same-int (pos a) (pos b) e = ap pos (eqb-true a b e)
 same-int (pos a) (negsuc b) e = absurd (false≢true e)
@@ -41,7 +33,7 @@ same-bool false true e = absurd (false≢true e)
 same-bool false false e = refl
 
 both : (a b c d : ℕ) → eqb a b && eqb c d ≡ true → (a ≡ b) × (c ≡ d)
-both a b c d t = (eqb-true a b (and-left (eqb a b) (eqb c d) t), eqb-true c d (and-right (eqb a b) (eqb c d) t))
+both a b c d t = (eqb-true a b (and-eq-true-iff (eqb a b) (eqb c d) .0 t .0), eqb-true c d (and-eq-true-iff (eqb a b) (eqb c d) .0 t .1))
 
 -- a row that passes its test says the truth
 sound : (e : Example) → holds e ≡ true → Says e
@@ -49,7 +41,7 @@ sound (checkIs g count fromEnd value) t = eqb-true (number (check g (onlyOne cou
 sound (signedIs p value minusZero) t =
     let a = sameInt (signedOf p) value in
     let b = Bool·beq (isMinusZero p) minusZero in
-    (same-int (signedOf p) value (and-left a b t), same-bool (isMinusZero p) minusZero (and-right a b t))
+    (same-int (signedOf p) value (and-eq-true-iff a b .0 t .0), same-bool (isMinusZero p) minusZero (and-eq-true-iff a b .0 t .1))
 sound (listingIs bytes count room number value) t = both (listingOf bytes count room .0) number (listingOf bytes count room .1) value t
 sound (testIs r number value) t = both (answerCode (fieldTests r) .0) number (answerCode (fieldTests r) .1) value t
 sound (readingIs bytes count place number value) t = both (readingOf bytes count place .0) number (readingOf bytes count place .1) value t
@@ -58,7 +50,7 @@ sound (daysIs n4 nt number value) t = both (dayCode (dayCount n4 nt) .0) number 
 
 all-sound : (es : List Example) → allHold es ≡ true → Each Says es
 all-sound [] t = tt
-all-sound (e ∷ es) t = (sound e (and-left (holds e) (allHold es) t), all-sound es (and-right (holds e) (allHold es) t))
+all-sound (e ∷ es) t = (sound e (and-eq-true-iff (holds e) (allHold es) .0 t .0), all-sound es (and-eq-true-iff (holds e) (allHold es) .0 t .1))
 
 test : allHold rows ≡ true
 unfolding check remainder listAnswer recorded starts scan fieldTests ranges inRange information when _then_ reading placeTests stringTests recordAt stringBits cut typeAt

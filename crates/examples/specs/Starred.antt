@@ -5,16 +5,16 @@ use mathlib.Core.List.{List, [], _∷_, _++_}
 use Prim.Native.Nat.{ℕ, _-_}
 use lib.Dec.{eqb}
 use lib.IntN.{ℤ, pos, negsuc}
-use lib.ListN.{length, replicate}
-use Rattle.bits.specs.Bits.{number, bits, zeros, recorded}
+use lib.ListN.{replicate}
+use Rattle.bits.specs.Bits.{number, bits, zeros}
 use Rattle.bits.specs.Signed.{signedOf, isMinusZero}
 use Rattle.cyclic.specs.Generators.{generator16, generator24}
 use Rattle.cyclic.specs.Register.{check}
 use Rattle.format.specs.declared.Record.{Record}
-use Rattle.format.specs.Answers.{answerCode, listedCode, writtenCode, dayCode, listAnswer}
-use Rattle.format.specs.Listing.{starts}
+use Rattle.format.specs.Answers.{answerCode, listedCode, writtenCode, dayCode}
+use Rattle.format.specs.Listing.{listing}
 use Rattle.format.specs.Reading.{reading}
-use Rattle.format.specs.Records.{fieldTests}
+use Rattle.format.specs.Records.{rawBytes, fieldTests}
 use Rattle.format.specs.Values.{dayCount}
 use Rattle.format.specs.Writing.{writing}
 
@@ -35,7 +35,7 @@ pub data Example : Type 0 where
   daysIs : (n4 nt : ℤ) (number value : ℕ) → Example
 
 abbrev pub listingOf : List ℕ → ℕ → ℕ → ℕ × ℕ
-listingOf bytes count room = listedCode (listAnswer (length bytes) count room (length (starts (recorded bytes count))))
+listingOf bytes count room = listedCode (listing bytes count room)
 
 abbrev pub readingOf : List ℕ → ℕ → ℕ → ℕ × ℕ
 readingOf bytes count place = answerCode (reading bytes count place .answer)
@@ -43,7 +43,7 @@ readingOf bytes count place = answerCode (reading bytes count place .answer)
 abbrev pub writingOf : Record → ℕ → ℕ → ℕ → ℕ × ℕ
 writingOf content bytes count place = writtenCode (writing bytes count place content)
 
--- A record of type 10 with these tb and OMB, all other fields at their least.
+-- A record of type 10 with these tb and OMB; the other unsigned fields are at their least, the signed ones 0.
 abbrev pub ephemeris : ℕ → ℕ → Record
 ephemeris tb omb =
     record {
@@ -59,7 +59,7 @@ ephemeris tb omb =
       numbers =
           pos 1 ∷ pos 1 ∷ pos 0 ∷ pos 0 ∷ pos tb ∷ pos 1 ∷ pos 1 ∷ pos 0 ∷ pos 0 ∷ pos 0 ∷ pos 0 ∷ pos 0 ∷ pos 0 ∷ pos 0 ∷ pos 0 ∷ pos 0 ∷ [];
       minus = 0;
-      raw = replicate 38 0;
+      raw = replicate rawBytes 0;
     }
 
 abbrev pub onlyOne : ℕ → ℕ → List Bool

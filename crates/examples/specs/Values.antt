@@ -1,21 +1,19 @@
 -- Fields as f64: the largest and the smallest count of the fields of 40 bits, 1, -1, 0 and minus zero, with the float's 64 bits. Assumes nothing.
-use mathlib.Core.List.{List, [], _∷_}
+use mathlib.Core.List.{List, [], _∷_, map}
 use Prim.Native.Nat.{ℕ}
 use lib.IntN.{ℤ, pos, negsuc}
-use lib.ListN.{replicate}
+use lib.ListN.{set}
 use Rattle.format.specs.declared.Record.{Record}
-use Rattle.examples.specs.Writable.{recordOf, noRaw}
+use Rattle.format.specs.Types.{information}
+use Rattle.examples.specs.Writable.{recordOf, noRaw, zeroOrLeast}
 
 -- A record of type 11 by its x, field 10, of 2 ^ -20 kilometres; and one of type 10 by its tau_c, field 24, of 2 ^ -31 seconds.
+-- The other unsigned fields are at their least, the signed ones 0.
 abbrev pub position : ℤ → ℕ → Record
-position x minus = recordOf 11 (x ∷ replicate 15 (pos 0)) minus noRaw
+position x minus = recordOf 11 (set (map zeroOrLeast (information 11)) 0 x) minus noRaw
 
 abbrev pub shift : ℤ → ℕ → Record
-shift s minus =
-    recordOf 10
-    (pos 1 ∷ pos 1 ∷ pos 0 ∷ pos 0 ∷ pos 0 ∷ pos 1 ∷ pos 1 ∷ pos 0 ∷ pos 0 ∷ pos 0 ∷ pos 0 ∷ pos 0 ∷ pos 0 ∷ pos 0 ∷ s ∷ pos 0 ∷ [])
-    minus
-    noRaw
+shift s minus = recordOf 10 (set (map zeroOrLeast (information 10)) 14 s) minus noRaw
 
 -- A record, the number of a field, and the bits of its value.
 pub record Pattern : Type 0 where

@@ -8,7 +8,7 @@ use lib.ListN.{length}
 use Rattle.bits.specs.Bits.{recorded}
 use Rattle.format.specs.Answers.{refusalCode, answerCode, listedCode, writtenCode, valueCode}
 use Rattle.format.specs.Demand3.{ListPromise}
-use Rattle.format.specs.Listing.{starts, listAfter}
+use Rattle.format.specs.Listing.{starts, listAfter, listing}
 use Rattle.format.specs.Reading.{reading}
 use Rattle.format.specs.Values.{powerOf, countOf, IsScaled, scaling}
 use Rattle.format.specs.Writing.{writing, bytesAfter, ReadsBack, WritesBack}
@@ -23,7 +23,7 @@ use Rattle.format.specs.declared.Value.{Value}
 use Rattle.format.specs.declared.Value.the-variants.{Number, Refused as NoValue}
 use Rattle.format.specs.declared.Written.{Written}
 use Rattle.format.specs.declared.Written.the-variants.{Upto, Refused as NotWritten}
-use Rattle.l1oc.specs.Codes.{coded, readCoded, valueCoded, listed}
+use Rattle.l1oc.specs.Codes.{coded, readCoded, valueCoded}
 use Rattle.answers.specs.declared.Code.{Code}
 use Rattle.l1oc.specs.declared.ReadCode.{ReadCode}
 use Rattle.l1oc.specs.declared.ValueCode.{ValueCode}
@@ -67,9 +67,9 @@ zero-upto (NotWritten r) e = absurd (not-zero r e)
 -- ---- the promises
 module _ (bytes : List ℕ) (count : ℕ) where
   pub lists : (before after : List ℕ) (answer : Listed) (r : Code) → ListPromise bytes count before answer after → Says r (listedCode answer)
-      → (r ≡ coded (listedCode (listed bytes count before)))
-      × ((after ≡ listAfter (listed bytes count before) before (starts (recorded bytes count)))
-      × ListPromise bytes count before (listed bytes count before) after)
+      → (r ≡ coded (listedCode (listing bytes count (length before))))
+      × ((after ≡ listAfter (listing bytes count (length before)) before (starts (recorded bytes count)))
+      × ListPromise bytes count before (listing bytes count (length before)) after)
   lists before after answer r p e = (
     code-is r (listedCode answer) e ∙ ap (λ (a : Listed). coded (listedCode a)) (p .answered),
     (

@@ -1,12 +1,7 @@
 -- The structs of the C interface, from the answers and their numbers and values. Assumes nothing.
-use mathlib.Core.List.{List}
 use Prim.Native.Nat.{ℕ}
 use lib.Ieee.{Float}
-use lib.ListN.{length}
-use Rattle.bits.specs.Bits.{recorded}
-use Rattle.format.specs.Answers.{answerCode, listAnswer}
-use Rattle.format.specs.Listing.{starts}
-use Rattle.format.specs.declared.Listed.{Listed}
+use Rattle.format.specs.Answers.{answerCode}
 use Rattle.format.specs.declared.Reading.{Reading}
 use Rattle.answers.specs.declared.Code.{Code}
 use Rattle.l1oc.specs.declared.ReadCode.{ReadCode}
@@ -23,7 +18,3 @@ readCoded r = record { number = answerCode (r .answer) .0; value = answerCode (r
 -- A number, a value and a float.
 abbrev pub valueCoded : ℕ × ℕ × Float → ValueCode
 valueCoded p = record { number = p .0; value = p .1; scaled = p .2 }
-
--- What listing answers, of the lent bytes, the bit count, and the list before.
-abbrev pub listed : List ℕ → ℕ → List ℕ → Listed
-listed bytes count before = listAnswer (length bytes) count (length before) (length (starts (recorded bytes count)))

@@ -7,11 +7,11 @@ ghost use lib.ListN.{length};
 ghost use Rattle.bits.specs.Bits.{recorded};
 ghost use Rattle.format.specs.Answers.{listedCode, writtenCode, valueCode, accuracyCode, dayCode};
 ghost use Rattle.format.specs.Demand3.{ListPromise};
-ghost use Rattle.format.specs.Listing.{starts, listAfter};
+ghost use Rattle.format.specs.Listing.{starts, listAfter, listing};
 ghost use Rattle.format.specs.Reading.{reading};
 ghost use Rattle.format.specs.Values.{powerOf, countOf, IsScaled, scaling, accuracy, dayCount};
 ghost use Rattle.format.specs.Writing.{writing, bytesAfter, ReadsBack, WritesBack};
-ghost use Rattle.l1oc.specs.Codes.{coded, readCoded, valueCoded, listed};
+ghost use Rattle.l1oc.specs.Codes.{coded, readCoded, valueCoded};
 
 // What reading answers: 0 and 0 beside the record, or a refusal beside a blank one.
 #[repr(C)]
@@ -53,9 +53,9 @@ fn value_code(answer: Value) -> ValueCode
 // Lists the starts of the strings in the first `count` bits.
 #[no_mangle]
 pub extern "C" fn l1oc_list(bytes: &[u8], count: usize, list: &mut [u32]) -> Code
-    ensures { λ r. ⌜ r ≡ coded (listedCode (listed (now (bytes .entry)) count (now (list .entry)))) ⌝ }
-    ensures { λ _. ⌜ now (list .exit) ≡ listAfter (listed (now (bytes .entry)) count (now (list .entry))) (now (list .entry)) (starts (recorded (now (bytes .entry)) count)) ⌝ }
-    ensures { λ _. ⌜ ListPromise (now (bytes .entry)) count (now (list .entry)) (listed (now (bytes .entry)) count (now (list .entry))) (now (list .exit)) ⌝ }
+    ensures { λ r. ⌜ r ≡ coded (listedCode (listing (now (bytes .entry)) count (length (now (list .entry))))) ⌝ }
+    ensures { λ _. ⌜ now (list .exit) ≡ listAfter (listing (now (bytes .entry)) count (length (now (list .entry)))) (now (list .entry)) (starts (recorded (now (bytes .entry)) count)) ⌝ }
+    ensures { λ _. ⌜ ListPromise (now (bytes .entry)) count (now (list .entry)) (listing (now (bytes .entry)) count (length (now (list .entry)))) (now (list .exit)) ⌝ }
 {
     let answer = listing::list(bytes, count, list);
     answers::listed_code(answer)

@@ -56,7 +56,7 @@ fn mark_from(rec: &[u8], count: usize, from: usize) -> usize
 {
     let mut p = from;
     while p + 12 <= count {
-        if bits::field(rec, p, 12) == 0x5F1 {
+        if bits::field(rec, p, 12) == format::MARK {
             return p;
         }
         p += 1;
@@ -65,7 +65,7 @@ fn mark_from(rec: &[u8], count: usize, from: usize) -> usize
 }
 
 // The same, word by word as long as the rest has a word.
-pub fn next_mark(rec: &[u8], count: usize, from: usize) -> usize
+fn next_mark(rec: &[u8], count: usize, from: usize) -> usize
     requires { ⌜ (count < 2 ^ 32) × (count ≤ 8 * length (now rec)) × (from ≤ count) ⌝ }
     ensures { λ r. ⌜ NextMark (recorded (now (rec .entry)) count) from r ⌝ }
 {
@@ -107,14 +107,14 @@ fn check_passes(
     ensures { λ r. ⌜ (r ≡ true) ↔ Divides (generatorOf kind) (cut offset count (unpack (now (part .entry)))) ⌝ }
 {
     if kind == 2 {
-        cyclic::table_divides(part, offset, count, t24, 0x1864CFB, 24)
+        cyclic::table_divides(part, offset, count, t24, cyclic::tables::GENERATOR24, 24)
     } else {
-        cyclic::table_divides(part, offset, count, t16, 0x16F63, 16)
+        cyclic::table_divides(part, offset, count, t16, cyclic::tables::GENERATOR16, 16)
     }
 }
 
 // The length of the string that stands at a place, or 0, from only the bytes that it covers: a part that starts at its byte, and a bit offset.
-pub fn standing(rec: &[u8], count: usize, place: usize, t16: &[u32], t24: &[u32]) -> usize
+fn standing(rec: &[u8], count: usize, place: usize, t16: &[u32], t24: &[u32]) -> usize
     requires { ⌜ (count ≤ bitLimit) × (count ≤ 8 * length (now rec)) × (place ≤ count) ⌝ }
     requires { ⌜ Table 16 0x16F63 (now t16) × Table 24 0x1864CFB (now t24) ⌝ }
     ensures { λ r. ⌜ r ≡ standing (recorded (now (rec .entry)) count) place ⌝ }
@@ -126,7 +126,7 @@ pub fn standing(rec: &[u8], count: usize, place: usize, t16: &[u32], t24: &[u32]
     let offset = place % 8;
     let part = &rec[first..];
     let head = bits::field(part, offset, 18);
-    if head / 64 != 0x5F1 {
+    if head / 64 != format::MARK {
         return 0;
     }
     let kind = head % 64;

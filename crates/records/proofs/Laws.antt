@@ -1,6 +1,6 @@
 -- Laws of the test of ranges. Assumes nothing.
 use mathlib.Core.Path.{_≡_, refl, sym, ap, _∙_}
-use mathlib.Core.Bool.{Bool, true, false, cond, _&&_}
+use mathlib.Core.Bool.{Bool, true, false, cond, _&&_, and-eq-true-iff}
 use mathlib.Core.List.{List, [], _∷_, _++_}
 use Prim.Native.Nat.{ℕ, zero, suc, _+_, _-_, _^_, _<_, _≤_}
 use native.Mathlib.Omega.{arith}
@@ -25,7 +25,7 @@ use Rattle.format.specs.Records.{ranges, isZero}
 use Rattle.format.specs.Types.{information}
 use Rattle.records.specs.declared.rows.Row.{Row}
 use Rattle.records.specs.Rows.{Describes, takes}
-use Rattle.records.proofs.Table.{both, wide, allWide, wide-at, all-wide, width-at, least-at, most-at}
+use Rattle.records.proofs.Table.{wide, allWide, wide-at, all-wide, width-at, least-at, most-at}
 
 -- the machine's test of a number for zero
 pub zero-seen : (v : ℤ) → SFits w64 v → eqb (ofZ w64 v) 0 ≡ isZero v
@@ -82,10 +82,10 @@ pub ranges-pass : (fs : List Field) (vs : List ℤ) (n i : ℕ) → allWide fs �
 ranges-pass [] vs n i w l e = refl
 ranges-pass (f ∷ fs) [] n i w l e = absurd (omega arith)
 ranges-pass (f ∷ fs) (v ∷ vs) n zero w l e =
-    cond-pass (takes (width f) (least f) (most f) v) (ranges fs vs (suc n)) (OutOfRange n) (sym (ranges-cons f fs v vs n (both (wide f) w .0)) ∙ e) .0
+    cond-pass (takes (width f) (least f) (most f) v) (ranges fs vs (suc n)) (OutOfRange n) (sym (ranges-cons f fs v vs n (and-eq-true-iff (wide f) _ .0 w .0)) ∙ e) .0
 ranges-pass (f ∷ fs) (v ∷ vs) n (suc i) w l e =
-    let p = cond-pass (takes (width f) (least f) (most f) v) (ranges fs vs (suc n)) (OutOfRange n) (sym (ranges-cons f fs v vs n (both (wide f) w .0)) ∙ e) in
-    ranges-pass fs vs (suc n) i (both (wide f) w .1) (omega arith) (p .1)
+    let p = cond-pass (takes (width f) (least f) (most f) v) (ranges fs vs (suc n)) (OutOfRange n) (sym (ranges-cons f fs v vs n (and-eq-true-iff (wide f) _ .0 w .0)) ∙ e) in
+    ranges-pass fs vs (suc n) i (and-eq-true-iff (wide f) _ .0 w .1) (omega arith) (p .1)
 
 -- ---- one turn of a loop over the fields, from the place i on
 

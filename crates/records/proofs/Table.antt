@@ -1,6 +1,6 @@
 -- Facts of every type's fields, computed; and what a row of the code's table says at a place. Assumes nothing.
 use mathlib.Core.Path.{_≡_, refl}
-use mathlib.Core.Bool.{Bool, true, false, false≢true, not, _&&_}
+use mathlib.Core.Bool.{Bool, true, false, not, _&&_, and-eq-true-iff}
 use mathlib.Core.List.{List, [], _∷_}
 use Prim.Native.Nat.{ℕ, zero, suc}
 use lib.Dec.{eqb}
@@ -27,14 +27,10 @@ allWide (f ∷ fs) = wide f && allWide fs
 pub all-wide : (t : ℕ) → allWide (information t) ≡ true
 all-wide = every-type (λ l g fs. allWide fs ≡ true) refl refl refl refl refl refl refl refl
 
-pub both : (a : Bool) {b : Bool} → (a && b) ≡ true → (a ≡ true) × (b ≡ true)
-both true h = (refl, h)
-both false h = absurd (false≢true h)
-
 pub wide-at : (fs : List Field) (i : ℕ) → allWide fs ≡ true → wide (getD fs i absent) ≡ true
 wide-at [] i h = refl
-wide-at (f ∷ fs) zero h = both (wide f) h .0
-wide-at (f ∷ fs) (suc i) h = wide-at fs i (both (wide f) h .1)
+wide-at (f ∷ fs) zero h = and-eq-true-iff (wide f) _ .0 h .0
+wide-at (f ∷ fs) (suc i) h = wide-at fs i (and-eq-true-iff (wide f) _ .0 h .1)
 
 -- ---- a row at a place
 

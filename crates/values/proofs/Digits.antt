@@ -10,7 +10,8 @@ use lib.Ieee.{Float, nan, inf, fin, binary64, up, down, size, toBits}
 use lib.Ieee.Digits.{size-lt, size-le, size-reaches}
 use lib.Ieee.Fits.{down-pos}
 use lib.Ieee.Exact.{HasValue}
-use Rattle.format.specs.Values.{digitBits, scaledBits, isMinus}
+use Rattle.bits.specs.Signed.{isNegative}
+use Rattle.format.specs.Values.{digitBits, scaledBits}
 
 -- j more binary digits
 size-above : (n j : ℕ) → 2 ^ j ≤ n → j < size n
@@ -69,7 +70,7 @@ zero-units : (n : ℕ) → n ≡ 0 → unitBits false n ≡ 0
 unfolding size
 zero-units n e = ap (unitBits false) e
 
-pub value-bits : (x : Float) (z : ℤ) (k : ℕ) → HasValue x (isMinus z) (natAbs z) (2 ^ k) → natAbs z < 2 ^ 53 → k ≤ 1021 → toBits binary64 x ≡ scaledBits z k
+pub value-bits : (x : Float) (z : ℤ) (k : ℕ) → HasValue x (isNegative z) (natAbs z) (2 ^ k) → natAbs z < 2 ^ 53 → k ≤ 1021 → toBits binary64 x ≡ scaledBits z k
 unfolding scaledBits
 value-bits x (pos zero) k v h l = value-units x false 0 k v (omega arith) ∙ zero-units (0 * 2 ^ (1074 - k)) (zero-mul (2 ^ (1074 - k)))
 value-bits x (pos (suc n)) k v h l = value-units x false (suc n) k v (omega arith) ∙ units-digits false (suc n) k (zero-lt-suc n) h l

@@ -1,6 +1,6 @@
 -- The fields of a type by their numbers, and the sizes of their counts. Assumes nothing.
 use mathlib.Core.Path.{_≡_, refl, sym, ap, _∙_}
-use mathlib.Core.Bool.{Bool, true, false≢true, _&&_}
+use mathlib.Core.Bool.{Bool, true, false≢true, _&&_, and-eq-true-iff}
 use mathlib.Core.List.{List, [], _∷_}
 use Prim.Native.Nat.{ℕ, zero, suc, _+_, _-_, _^_, _≤_, _<_}
 use native.Mathlib.Nat.{lt-of-lt-of-le, lt-of-le-of-lt, lt-of-not-le, le-of-suc-le-suc, not-suc-le-zero}
@@ -24,7 +24,6 @@ use Rattle.format.specs.Fields.{Field, unsigned, signed, absent, power, inRange
 use Rattle.format.specs.Records.{numbersOf, ranges, fieldTests, recordTests}
 use Rattle.format.specs.Types.{service, information, fieldsOf}
 use Rattle.format.specs.Values.{powerOf, countOf}
-use Rattle.records.proofs.Table.{both}
 
 -- ---- by number
 
@@ -34,8 +33,8 @@ allPlain (f ∷ fs) = eqb (power f) 0 && allPlain fs
 
 plain-at : (fs : List Field) (n : ℕ) → allPlain fs ≡ true → power (getD fs n absent) ≡ 0
 plain-at [] n e = refl
-plain-at (f ∷ fs) zero e = eqb-true (power f) 0 (both (eqb (power f) 0) e .0)
-plain-at (f ∷ fs) (suc n) e = plain-at fs n (both (eqb (power f) 0) e .1)
+plain-at (f ∷ fs) zero e = eqb-true (power f) 0 (and-eq-true-iff (eqb (power f) 0) _ .0 e .0)
+plain-at (f ∷ fs) (suc n) e = plain-at fs n (and-eq-true-iff (eqb (power f) 0) _ .0 e .1)
 
 -- no service field has a power
 pub power-early : (t n : ℕ) → n < 10 → powerOf t n ≡ 0
@@ -93,15 +92,15 @@ few-at (f ∷ fs) [] n i e d h p = absurd (not-suc-le-zero h)
 few-at (absent ∷ fs) (v ∷ vs) n zero e d h p = absurd (p refl)
 few-at (absent ∷ fs) (v ∷ vs) n (suc i) e d h p = few-at fs vs (suc n) i e d (le-of-suc-le-suc h) p
 few-at (unsigned w a b k ∷ fs) (v ∷ vs) n zero e d h p =
-    few-unsigned w a b k v (cond-pass (inRange (unsigned w a b k) v) (ranges fs vs (suc n)) (OutOfRange n) d .0) (ltb-true b (2 ^ 53) (both (few (unsigned w a b k)) e .0))
+    few-unsigned w a b k v (cond-pass (inRange (unsigned w a b k) v) (ranges fs vs (suc n)) (OutOfRange n) d .0) (ltb-true b (2 ^ 53) (and-eq-true-iff (few (unsigned w a b k)) _ .0 e .0))
 few-at (unsigned w a b k ∷ fs) (v ∷ vs) n (suc i) e d h p =
-    few-at fs vs (suc n) i (both (few (unsigned w a b k)) e .1) (cond-pass (inRange (unsigned w a b k) v) (ranges fs vs (suc n)) (OutOfRange n) d .1) (le-of-suc-le-suc h) p
+    few-at fs vs (suc n) i (and-eq-true-iff (few (unsigned w a b k)) _ .0 e .1) (cond-pass (inRange (unsigned w a b k) v) (ranges fs vs (suc n)) (OutOfRange n) d .1) (le-of-suc-le-suc h) p
 few-at (signed w k ∷ fs) (v ∷ vs) n zero e d h p =
-    let s : w ≤ 54 = leb-true w 54 (both (few (signed w k)) e .0) in
+    let s : w ≤ 54 = leb-true w 54 (and-eq-true-iff (few (signed w k)) _ .0 e .0) in
     let narrow : w - 1 ≤ 53 = omega arith in
     lt-of-lt-of-le (range-size w k v (cond-pass (inRange (signed w k) v) (ranges fs vs (suc n)) (OutOfRange n) d .0)) (pow-mono narrow)
 few-at (signed w k ∷ fs) (v ∷ vs) n (suc i) e d h p =
-    few-at fs vs (suc n) i (both (few (signed w k)) e .1) (cond-pass (inRange (signed w k) v) (ranges fs vs (suc n)) (OutOfRange n) d .1) (le-of-suc-le-suc h) p
+    few-at fs vs (suc n) i (and-eq-true-iff (few (signed w k)) _ .0 e .1) (cond-pass (inRange (signed w k) v) (ranges fs vs (suc n)) (OutOfRange n) d .1) (le-of-suc-le-suc h) p
 
 -- a record that passes its tests has such a count in each field with a power
 pub count-few : (r : Record) (i : ℕ) → recordTests r ≡ Done → i < length (r .numbers) → (powerOf (r .kind) (10 + i) ≡ 0 → ⊥) → natAbs (getD (r .numbers) i (pos 0)) < 2 ^ 53
@@ -113,5 +112,5 @@ count-few r i d h p =
 -- ---- a range of numbers that are not negative
 
 pub inside : (a b : ℕ) (z : ℤ) → (leZ (pos a) z && leZ z (pos b)) ≡ true → (z ≡ pos (natAbs z)) × (a ≤ natAbs z) × (natAbs z ≤ b)
-inside a b (pos n) e = let t = both (leb a n) e in (refl, leb-true a n (t .0), leb-true n b (t .1))
+inside a b (pos n) e = let t = and-eq-true-iff (leb a n) _ .0 e in (refl, leb-true a n (t .0), leb-true n b (t .1))
 inside a b (negsuc n) e = absurd (false≢true e)

@@ -13,7 +13,8 @@ use lib.Ieee.Bits.{ofBits-toBits, nanBits-is}
 use lib.Ieee.Exact.{HasValue, round-exact}
 use lib.Ieee.Scale.{round-same}
 use lib.Ieee.Back.{round-whole}
-use Rattle.format.specs.Values.{digitBits, scaledBits, isMinus, IsScaled}
+use Rattle.bits.specs.Signed.{isNegative}
+use Rattle.format.specs.Values.{digitBits, scaledBits, IsScaled}
 use Rattle.values.proofs.Digits.{value-bits}
 
 -- ---- 2 ^ -k
@@ -101,7 +102,7 @@ unfolding inFloat
 in-float (pos n) h = le→leb n (2 ^ 53) (le-of-lt h)
 in-float (negsuc n) h = lt→ltb n (2 ^ 53) (omega arith)
 
-cast-value : (z : ℤ) → natAbs z < 2 ^ 53 → HasValue (ofInt binary64 z) (isMinus z) (natAbs z) 1
+cast-value : (z : ℤ) → natAbs z < 2 ^ 53 → HasValue (ofInt binary64 z) (isNegative z) (natAbs z) 1
 unfolding ofInt
 cast-value (pos n) h = round-whole binary64 false n (le-of-lt h)
 cast-value (negsuc n) h = round-whole binary64 true (suc n) (le-of-lt h)
@@ -111,7 +112,7 @@ module _ (z : ℤ) (k : ℕ) (y : Float) (h : natAbs z < 2 ^ 53) (l : k ≤ 1021
   pub product-scaled : IsScaled z k (mul binary64 (ofInt binary64 z) y)
   product-scaled =
       let x = mul binary64 (ofInt binary64 z) y in
-      let v = times (ofInt binary64 z) y (isMinus z) (natAbs z) k (cast-value z h) (p .value) h l in
+      let v = times (ofInt binary64 z) y (isNegative z) (natAbs z) k (cast-value z h) (p .value) h l in
       record { bits = value-bits x z k v h l; value = v }
 
   pub product-is : mul binary64 (ofInt binary64 z) y ≡ ofBits binary64 (scaledBits z k)

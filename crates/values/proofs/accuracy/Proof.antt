@@ -1,6 +1,6 @@
 -- `values::accuracy`: the table at the factor plus 15, and 0 past its end. Assumes nothing.
 use mathlib.Core.Path.{_≡_, refl, sym, ap, _∙_}
-use mathlib.Core.Bool.{Bool, true, false, cond, _&&_}
+use mathlib.Core.Bool.{Bool, true, false, cond, _&&_, and-eq-true-iff}
 use Prim.Native.Nat.{ℕ, suc, _-_, _≤_, _<_}
 use native.Mathlib.Nat.{lt-of-lt-of-le}
 use native.Mathlib.Omega.{arith}
@@ -18,7 +18,6 @@ use Rattle.format.specs.declared.Refusal.the-variants.{OutOfRange}
 use Rattle.format.specs.Fields.{inRange}
 use Rattle.format.specs.Values.{centimetres, aboveLeast, accuracy}
 use Rattle.records.proofs.between.Reads as between-reads
-use Rattle.records.proofs.Table.{both}
 use Rattle.values.proofs.accuracy.Lts as lts
 use Rattle.values.proofs.accuracy.Reads as reads
 use Rattle.values.proofs.accuracy.Statement.{statement}
@@ -40,7 +39,7 @@ in-table f e = rw e
 sum-is : (f : ℤ) → isFactor f ≡ true → (f +ℤ pos 15 ≡ pos (aboveLeast f)) × (aboveLeast f < 31)
 sum-is (pos m) e = let h : m ≤ 15 = leb-true m 15 e in (refl, omega arith)
 sum-is (negsuc m) e =
-    let h : m ≤ 14 = leb-true m 14 (both (leb m 14) e .0) in
+    let h : m ≤ 14 = leb-true m 14 (and-eq-true-iff (leb m 14) _ .0 e .0) in
     let t : ltb 15 (suc m) ≡ false = le-ltb 15 (suc m) (omega arith) in
     let d : subℕ 15 (suc m) ≡ pos (15 - suc m) = ap (λ (b : Bool). cond b (negsuc (suc m - 16)) (pos (15 - suc m))) t in
     (d ∙ ap (λ (z : ℤ). pos (natAbs z)) (sym d), rw d (omega arith))
