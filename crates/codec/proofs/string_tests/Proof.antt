@@ -1,12 +1,17 @@
 -- `codec::string_tests`: each return is a case of the tests 5, 4, 5, 6. Assumes nothing.
 use mathlib.Core.Path.{_≡_, ap, _∙_}
-use Prim.Native.Nat.{_+_, _/_, _%_}
+use Prim.Native.Nat.{ℕ, _+_, _/_, _%_}
 use native.Mathlib.Omega.{arith}
 use lib.ListN.{length-take, length-drop}
 use borrow.Author.Needs.{needs}
 use Rattle.bits.specs.Bits.{number, unpack, cut}
 use Rattle.listing.proofs.Here.{length-least, part-bits, covered}
 use Rattle.codec.proofs.Refusing.{string-short, string-unmarked, string-beyond, string-done, string-wrong}
+use Rattle.bits.proofs.field.Reads as field-reads
+use Rattle.listing.proofs.length_of.Reads as length-of-reads
+use Rattle.codec.proofs.check_passes.Reads as check-passes-reads
+use Rattle.codec.proofs.string_tests.Lts as lts
+use Rattle.codec.proofs.string_tests.Reads as reads
 use Rattle.codec.proofs.string_tests.Statement.{statement}
 use Rattle.codec.proofs.string_tests.Tie as tie
 
@@ -70,28 +75,34 @@ check-passes-requires c κs =
     let l = length-least _ _ (c .before .before .length-of .ensures) in
     (omega arith, simp (length-take, length-drop) (omega arith), omega arith)
 
+-- what was fetched, and the check of all bits that the string covers
+module _ (p : lts.After-check-passes (field-reads.Asked, field-reads.Learnt, length-of-reads.Asked, length-of-reads.Learnt, check-passes-reads.Asked, check-passes-reads.Learnt) reads.Pre reads.Post) where
+  abbrev s : lts.Start (field-reads.Asked, field-reads.Learnt, length-of-reads.Asked, length-of-reads.Learnt, check-passes-reads.Asked, check-passes-reads.Learnt) reads.Pre reads.Post
+  s = p .before .before .before .before .before .before .before .before .before
+
+  abbrev head : ℕ
+  head = p .before .before .before .before .before .field .result
+
+  abbrev long : ℕ
+  long = p .before .before .before .length-of .result
+
+  head-is : head ≡ number (cut (s .args .place) 18 (unpack (s .args .rec .now)))
+  head-is = p .before .before .before .before .before .field .ensures ∙ ap number (part-bits (s .args .rec .now) (s .args .place) 18 (omega arith))
+
 returns-4 : tie.Need-returns-4
 returns-4 c =
-    let s = c .before .before .before .before .before .before .before .before .before .before in
-    let a = s .args in
-    let e : c .before .before .before .before .before .before .field .result ≡ number (cut (a .place) 18 (unpack (a .rec .now))) =
-    c .before .before .before .before .before .before .field .ensures ∙ ap number (part-bits (a .rec .now) (a .place) 18 (omega arith)) in
-    let l = length-least _ _ (c .before .before .before .before .length-of .ensures) in
-    let long = c .before .before .before .before .length-of .result in
-    string-done (a .rec .now) (a .count) (a .place) (s .pre .1) (omega arith) _ e (c .before .before .before .before .before .if2 .left) _ (c .before .before .before .before .length-of .ensures) (omega arith) _
-    (covered (a .rec .now) (a .place) long (c .before .before .before .before .before .before .field .result % 64) ((a .place % 8 + long + 7) / 8) _ (omega arith) (omega arith) (c .before .check-passes .ensures))
+    let p = c .before in
+    let a = s p .args in
+    string-done (a .rec .now) (a .count) (a .place) (s p .pre .1) (omega arith) _ (head-is p) (p .before .before .before .before .if2 .left) _ (p .before .before .before .length-of .ensures) (omega arith) _
+    (covered (a .rec .now) (a .place) (long p) (head p % 64) ((a .place % 8 + long p + 7) / 8) _ (omega arith) (omega arith) (p .check-passes .ensures))
     (c .if4 .taken)
 
 returns-5 : tie.Need-returns-5
 returns-5 c =
-    let s = c .before .before .before .before .before .before .before .before .before .before in
-    let a = s .args in
-    let e : c .before .before .before .before .before .before .field .result ≡ number (cut (a .place) 18 (unpack (a .rec .now))) =
-    c .before .before .before .before .before .before .field .ensures ∙ ap number (part-bits (a .rec .now) (a .place) 18 (omega arith)) in
-    let l = length-least _ _ (c .before .before .before .before .length-of .ensures) in
-    let long = c .before .before .before .before .length-of .result in
-    string-wrong (a .rec .now) (a .count) (a .place) (s .pre .1) (omega arith) _ e (c .before .before .before .before .before .if2 .left) _ (c .before .before .before .before .length-of .ensures) (omega arith) _
-    (covered (a .rec .now) (a .place) long (c .before .before .before .before .before .before .field .result % 64) ((a .place % 8 + long + 7) / 8) _ (omega arith) (omega arith) (c .before .check-passes .ensures))
+    let p = c .before in
+    let a = s p .args in
+    string-wrong (a .rec .now) (a .count) (a .place) (s p .pre .1) (omega arith) _ (head-is p) (p .before .before .before .before .if2 .left) _ (p .before .before .before .length-of .ensures) (omega arith) _
+    (covered (a .rec .now) (a .place) (long p) (head p % 64) ((a .place % 8 + long p + 7) / 8) _ (omega arith) (omega arith) (p .check-passes .ensures))
     (c .if4 .left)
 
 pub string-tests-spec : {M : Type 1} → statement M
