@@ -68,7 +68,7 @@ pub fn answer_number(a: Answer) -> u32
     ensures { λ r. ⌜ r ≡ answerCode a .0 ⌝ }
 {
     match a {
-        Answer::Done => 0,
+        Answer::Passed => 0,
         Answer::Refused(refusal) => refusal_number(refusal),
     }
 }
@@ -78,7 +78,7 @@ pub fn answer_code(answer: Answer) -> Code
     ensures { λ r. ⌜ (r .number ≡ answerCode answer .0) × (r .value ≡ answerCode answer .1) ⌝ }
 {
     match answer {
-        Answer::Done => Code {
+        Answer::Passed => Code {
             number: 0,
             value: 0,
         },

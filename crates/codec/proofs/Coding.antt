@@ -13,10 +13,10 @@ use Rattle.bits.specs.Bits.{number, odd, isOne, bits, put}
 use Rattle.bits.proofs.Lists.{put-none, put-join, length-put}
 use Rattle.bits.proofs.Numbers.{number-lt, length-bits, bits-back}
 use Rattle.bits.proofs.SignLaws.{signed-lt}
-use Rattle.format.specs.declared.Answer.the-variants.{Done}
+use Rattle.format.specs.declared.Answer.the-variants.{Passed}
 use Rattle.format.specs.Fields.{Field, unsigned, signed, absent, width, isSigned, total, code, codes}
 use Rattle.format.specs.Records.{markBits, ranges, unused, stray}
-use Rattle.format.specs.Types.{information}
+use Rattle.format.specs.Types.{placesOf}
 use Rattle.format.proofs.Information.{length-information, widths}
 use Rattle.format.proofs.FieldLaws.{sound, takes, strays, allSound, information-sound, length-code, value-code, Fits, fits, length-markBits}
 use Rattle.codec.specs.Coded.{codeOf}
@@ -77,20 +77,20 @@ length-fit g (Fits.next {f} {v} {m} {fs} {vs} {ms} i s t) =
 -- ---- the loop
 module _ (from kind minus : ℕ) (numbers : List ℤ) (u₀ : List Bool) where
   abbrev fields : List Field
-  fields = information kind
+  fields = placesOf kind
 
   -- the loop has come to the place i of the record and to the place `at` of the bits
-  pub record Gone (u : List Bool) (at marks i : ℕ) : Type 0 where
+  pub record WrittenSoFar (u : List Bool) (at marks i : ℕ) : Type 0 where
     pub place : at + total (drop i fields) ≡ from + total fields
     pub room : from + total fields ≤ length u
     pub strong : allSound (drop i fields) ≡ true
     pub fit : Fits (drop i fields) (drop i numbers) (markBits (16 - i) marks)
     pub filled : put at (codes (drop i fields) (drop i numbers) (markBits (16 - i) marks)) u ≡ put from (codes fields numbers (markBits 16 minus)) u₀
 
-  pub gone-start : from + total (information kind) ≤ length u₀ → length numbers ≡ 16
-      → (ranges (information kind) numbers 10 ≡ Done) × (unused (information kind) numbers ≡ false) × (stray (information kind) numbers (markBits 16 minus) 0 ≡ Done)
-      → Gone u₀ from minus 0
-  gone-start h l t =
+  pub written-start : from + total (placesOf kind) ≤ length u₀ → length numbers ≡ 16
+      → (ranges (placesOf kind) numbers 10 ≡ Passed) × (unused (placesOf kind) numbers ≡ false) × (stray (placesOf kind) numbers (markBits 16 minus) 0 ≡ Passed)
+      → WrittenSoFar u₀ from minus 0
+  written-start h l t =
       let n = length-information kind in
       record {
         place = refl;
@@ -100,11 +100,11 @@ module _ (from kind minus : ℕ) (numbers : List ℤ) (u₀ : List Bool) where
         filled = refl;
       }
 
-  module _ {u : List Bool} {at marks : ℕ} (i w : ℕ) (s m : Bool) (v : ℤ) (c : Gone u at marks i) (l : i < 16) (ln : length numbers ≡ 16)
-      (ew : w ≡ width (getD (information kind) i absent)) (es : s ≡ isSigned (getD (information kind) i absent))
+  module _ {u : List Bool} {at marks : ℕ} (i w : ℕ) (s m : Bool) (v : ℤ) (c : WrittenSoFar u at marks i) (l : i < 16) (ln : length numbers ≡ 16)
+      (ew : w ≡ width (getD (placesOf kind) i absent)) (es : s ≡ isSigned (getD (placesOf kind) i absent))
       (ev : v ≡ getD numbers i (pos 0)) (em : m ≡ odd marks) where
     abbrev f : Field
-    f = getD (information kind) i absent
+    f = getD (placesOf kind) i absent
 
     fields-here : drop i fields ≡ f ∷ drop (i + 1) fields
     fields-here = drop-cons fields i absent (omega (arith, length-information kind)) ∙ ap (λ (k : ℕ). f ∷ drop k fields) (sym (add-one i))
@@ -125,7 +125,7 @@ module _ (from kind minus : ℕ) (numbers : List ℤ) (u₀ : List Bool) where
     sounds = and-eq-true-iff (sound f) _ .0 (ap allSound (sym fields-here) ∙ c .strong)
 
     -- the field lies in the bits
-    pub room-here : at + w ≤ from + total (information kind)
+    pub room-here : at + w ≤ from + total (placesOf kind)
     room-here = omega (arith, c .place, ap total fields-here)
 
     pub width-here : w ≤ 40
@@ -159,8 +159,8 @@ module _ (from kind minus : ℕ) (numbers : List ℤ) (u₀ : List Bool) where
           ap (λ (fs : List Field). codes fs (drop i numbers) (markBits (16 - i) marks)) fields-here
           ∙ ap₂ (λ (vs : List ℤ) (ms : List Bool). codes (f ∷ drop (i + 1) fields) vs ms) numbers-here marks-here
 
-      pub gone-on : (z : List Bool) → z ≡ put at (bits w x) u → Gone z (at + w) (marks / 2) (i + 1)
-      gone-on z e =
+      pub written-on : (z : List Bool) → z ≡ put at (bits w x) u → WrittenSoFar z (at + w) (marks / 2) (i + 1)
+      written-on z e =
           let more = codes (drop (i + 1) fields) (drop (i + 1) numbers) (markBits (16 - (i + 1)) (marks / 2)) in
           let lm : length more ≡ total (drop (i + 1) fields) = length-fit (sounds .1) (here .2) in
           let sum = ap total fields-here in
@@ -177,15 +177,15 @@ module _ (from kind minus : ℕ) (numbers : List ℤ) (u₀ : List Bool) where
           }
 
   -- the same bits, or the same place, written in another way
-  pub gone-same : {u z : List Bool} {at marks i : ℕ} → z ≡ u → Gone u at marks i → Gone z at marks i
-  gone-same {u} {z} {at} {marks} {i} e g = subst (λ (p : List Bool). Gone p at marks i) (sym e) g
+  pub written-same : {u z : List Bool} {at marks i : ℕ} → z ≡ u → WrittenSoFar u at marks i → WrittenSoFar z at marks i
+  written-same {u} {z} {at} {marks} {i} e g = subst (λ (p : List Bool). WrittenSoFar p at marks i) (sym e) g
 
-  pub gone-at : {u : List Bool} {at to marks i : ℕ} → to ≡ at → Gone u at marks i → Gone u to marks i
-  gone-at {u} {at} {to} {marks} {i} e g = subst (λ (p : ℕ). Gone u p marks i) (sym e) g
+  pub written-at : {u : List Bool} {at to marks i : ℕ} → to ≡ at → WrittenSoFar u at marks i → WrittenSoFar u to marks i
+  written-at {u} {at} {to} {marks} {i} e g = subst (λ (p : ℕ). WrittenSoFar u p marks i) (sym e) g
 
   -- all sixteen
-  pub gone-all : {u : List Bool} {at marks : ℕ} (i : ℕ) → Gone u at marks i → i ≡ 16 → u ≡ put from (codes (information kind) numbers (markBits 16 minus)) u₀
+  pub written-all : {u : List Bool} {at marks : ℕ} (i : ℕ) → WrittenSoFar u at marks i → i ≡ 16 → u ≡ put from (codes (placesOf kind) numbers (markBits 16 minus)) u₀
   unfolding codes
-  gone-all {u} {at} {marks} i c e =
+  written-all {u} {at} {marks} i c e =
       let none : drop i fields ≡ [] = ap (λ (k : ℕ). drop k fields) (e ∙ sym (length-information kind)) ∙ drop-length fields in
       sym (ap (λ (fs : List Field). put at (codes fs (drop i numbers) (markBits (16 - i) marks)) u) none ∙ put-none at u) ∙ c .filled

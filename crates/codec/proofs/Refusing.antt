@@ -11,7 +11,7 @@ use borrow.Author.Tests.{lt-ltb, le-ltb, eq-eqb, ne-eqb}
 use Rattle.bits.specs.Bits.{number, unpack, recorded, cut}
 use Rattle.bits.proofs.Bytes.{length-recorded}
 use Rattle.cyclic.specs.Poly.{Divides}
-use Rattle.format.specs.declared.Answer.the-variants.{Done, Refused}
+use Rattle.format.specs.declared.Answer.the-variants.{Passed, Refused}
 use Rattle.format.specs.declared.Refusal.the-variants.{TooLong, BeyondBytes, BeyondCount, NoMark, RunsOut, CheckFails}
 use Rattle.format.specs.Answers.{bitLimit, when, _then_}
 use Rattle.format.specs.Reading.{placeTests, stringTests}
@@ -34,7 +34,7 @@ module _ (bytes count place : ℕ) where
   unfolding placeTests when _then_
   place-beyond h k l = let m : count ≤ 8 * bytes = omega arith in simp (le-ltb bitLimit count h, le-ltb (8 * bytes) count m, lt-ltb count place l)
 
-  pub place-done : count ≤ bitLimit → (count + 7) / 8 ≤ bytes → place ≤ count → Done ≡ placeTests bytes count place
+  pub place-done : count ≤ bitLimit → (count + 7) / 8 ≤ bytes → place ≤ count → Passed ≡ placeTests bytes count place
   unfolding placeTests when _then_
   place-done h k l = let m : count ≤ 8 * bytes = omega arith in simp (le-ltb bitLimit count h, le-ltb (8 * bytes) count m, le-ltb count place l)
 
@@ -94,13 +94,13 @@ module _ (s : List ℕ) (n p : ℕ) (h : n ≤ 8 * length s) where
         room : p + 125 ≤ n
         room = omega (arith, length-unit (v % 64))
 
-        pub string-done : t ≡ true → Done ≡ stringTests (recorded s n) p
+        pub string-done : t ≡ true → Passed ≡ stringTests (recorded s n) p
         unfolding when
         string-done w =
             let some : standing (recorded s n) p ≡ 0 → ⊥ = λ y. omega (arith, here-stands s n p h room v e long el k t et z w, length-unit (v % 64)) in
-            sym (ap (λ (b : Bool). cond b (Refused (CheckFails p)) Done) (ne-eqb (standing (recorded s n) p) 0 some)) ∙ last
+            sym (ap (λ (b : Bool). cond b (Refused (CheckFails p)) Passed) (ne-eqb (standing (recorded s n) p) 0 some)) ∙ last
 
         pub string-wrong : t ≡ false → Refused (CheckFails p) ≡ stringTests (recorded s n) p
         unfolding when
         string-wrong w =
-            sym (ap (λ (b : Bool). cond b (Refused (CheckFails p)) Done) (eq-eqb (standing (recorded s n) p) 0 (sym (here-wrong s n p h room v e long el k t et w)))) ∙ last
+            sym (ap (λ (b : Bool). cond b (Refused (CheckFails p)) Passed) (eq-eqb (standing (recorded s n) p) 0 (sym (here-wrong s n p h room v e long el k t et w)))) ∙ last

@@ -15,7 +15,7 @@ use Rattle.format.specs.Fields.{total, values, minusZeros}
 use Rattle.format.specs.Reading.{informationBits, recordAt}
 use Rattle.format.specs.Records.{rawBytes, markOf}
 use Rattle.format.specs.Strings.{stringBits, typeAt, lengthOf, checkBits}
-use Rattle.format.specs.Types.{information, rawCount}
+use Rattle.format.specs.Types.{placesOf, rawCount}
 use Rattle.format.proofs.Agree.{type-at, length-unit}
 use Rattle.format.proofs.Information.{string-filled, values-take, minusZeros-take}
 
@@ -31,7 +31,7 @@ module _ (u : List Bool) (o : ℕ) (h : o + lengthOf (typeAt u o) ≤ length u) 
   pub service-room : o + 50 ≤ length u
   service-room = omega (arith, length-unit (typeAt u o))
 
-  pub fields-room : o + 50 + total (information (typeAt u o)) ≤ length u
+  pub fields-room : o + 50 + total (placesOf (typeAt u o)) ≤ length u
   fields-room = omega (arith, string-filled (typeAt u o))
 
   pub raw-room : o + 50 + rawCount (typeAt u o) ≤ length u
@@ -46,15 +46,15 @@ module _ (u : List Bool) (o : ℕ) (h : o + lengthOf (typeAt u o) ≤ length u) 
       let b : l + 1 - 51 ≡ l - 50 = omega arith in
       ap₂ (λ (i j : ℕ). take j (drop i u)) a b
 
-  the-values : values (information (typeAt u o)) (drop (o + 50) u) ≡ values (information (typeAt u o)) (informationBits u o)
+  the-values : values (placesOf (typeAt u o)) (drop (o + 50) u) ≡ values (placesOf (typeAt u o)) (informationBits u o)
   the-values =
       let t = typeAt u o in
-      sym (ap (values (information t)) front ∙ values-take (information t) (lengthOf t - checkBits t - 50) (drop (o + 50) u) (omega (arith, string-filled t)))
+      sym (ap (values (placesOf t)) front ∙ values-take (placesOf t) (lengthOf t - checkBits t - 50) (drop (o + 50) u) (omega (arith, string-filled t)))
 
-  the-marks : minusZeros (information (typeAt u o)) (drop (o + 50) u) ≡ minusZeros (information (typeAt u o)) (informationBits u o)
+  the-marks : minusZeros (placesOf (typeAt u o)) (drop (o + 50) u) ≡ minusZeros (placesOf (typeAt u o)) (informationBits u o)
   the-marks =
       let t = typeAt u o in
-      sym (ap (minusZeros (information t)) front ∙ minusZeros-take (information t) (lengthOf t - checkBits t - 50) (drop (o + 50) u) (omega (arith, string-filled t)))
+      sym (ap (minusZeros (placesOf t)) front ∙ minusZeros-take (placesOf t) (lengthOf t - checkBits t - 50) (drop (o + 50) u) (omega (arith, string-filled t)))
 
   the-raw : cut (o + 50) (rawCount (typeAt u o)) u ≡ take (rawCount (typeAt u o)) (informationBits u o)
   unfolding cut
@@ -70,7 +70,7 @@ module _ (u : List Bool) (o : ℕ) (h : o + lengthOf (typeAt u o) ≤ length u) 
     kind-is = piece u (o + 12) 38 v 0 6 32 (o + 12) e (omega (arith, service-room)) refl (omega arith) ∙ sym (type-at u o)
 
     pub decoded-is : (kind : ℕ) (numbers : List ℤ) (minus : ℕ) (raw : List ℕ) → kind ≡ v / 2 ^ 32 % 64
-        → numbers ≡ values (information kind) (drop (o + 50) u) → minus ≡ markOf (minusZeros (information kind) (drop (o + 50) u))
+        → numbers ≡ values (placesOf kind) (drop (o + 50) u) → minus ≡ markOf (minusZeros (placesOf kind) (drop (o + 50) u))
         → raw ≡ put 0 (pack (cut (o + 50) (rawCount kind) u)) (replicate rawBytes 0)
         → _≡_ {A = Record} (record {
           kind = v / 2 ^ 32 % 64;
@@ -98,10 +98,10 @@ module _ (u : List Bool) (o : ℕ) (h : o + lengthOf (typeAt u o) ≤ length u) 
         let a8 = at 34 1 16 refl (omega arith) in
         let whole : v ≡ v / 1 = omega arith in
         let a9 : v % 65536 ≡ number (cut (o + 35 - 1) 16 u) = ap (λ (x : ℕ). x % 65536) whole ∙ at 35 16 0 refl (omega arith) in
-        let n : numbers ≡ values (information (typeAt u o)) (informationBits u o) =
-        en ∙ ap (λ (t : ℕ). values (information t) (drop (o + 50) u)) k ∙ the-values in
-        let m : minus ≡ markOf (minusZeros (information (typeAt u o)) (informationBits u o)) =
-        em ∙ ap (λ (t : ℕ). markOf (minusZeros (information t) (drop (o + 50) u))) k ∙ ap markOf the-marks in
+        let n : numbers ≡ values (placesOf (typeAt u o)) (informationBits u o) =
+        en ∙ ap (λ (t : ℕ). values (placesOf t) (drop (o + 50) u)) k ∙ the-values in
+        let m : minus ≡ markOf (minusZeros (placesOf (typeAt u o)) (informationBits u o)) =
+        em ∙ ap (λ (t : ℕ). markOf (minusZeros (placesOf t) (drop (o + 50) u))) k ∙ ap markOf the-marks in
         let w : raw ≡ put 0 (pack (take (rawCount (typeAt u o)) (informationBits u o))) (replicate rawBytes 0) =
         er ∙ ap (λ (t : ℕ). put 0 (pack (cut (o + 50) (rawCount t) u)) (replicate rawBytes 0)) k
         ∙ ap (λ (x : List Bool). put 0 (pack x) (replicate rawBytes 0)) the-raw in

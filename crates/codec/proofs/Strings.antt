@@ -13,7 +13,7 @@ use Rattle.bits.proofs.Lists.{put-join, cut-put, length-put, length-cut}
 use Rattle.bits.proofs.Numbers.{number-lt, number-append, number-back, bits-back}
 use Rattle.cyclic.specs.Register.{check}
 use Rattle.format.specs.declared.Answer.{Answer}
-use Rattle.format.specs.declared.Answer.the-variants.{Done, Refused}
+use Rattle.format.specs.declared.Answer.the-variants.{Passed, Refused}
 use Rattle.format.specs.declared.Record.{Record}
 use Rattle.format.specs.declared.Refusal.{Refusal}
 use Rattle.format.specs.declared.Refusal.the-variants.{RunsOut, NotZero}
@@ -23,11 +23,11 @@ use Rattle.format.specs.Fields.{total, codes}
 use Rattle.format.specs.Reading.{placeTests}
 use Rattle.format.specs.Records.{rawBytes, markBits, ranges, fieldTests, unused, overfilled, stray, recordTests}
 use Rattle.format.specs.Strings.{mark, lengthOf, generatorOf, checkBits}
-use Rattle.format.specs.Types.{places, information, rawCount}
+use Rattle.format.specs.Types.{places, placesOf, rawCount}
 use Rattle.format.specs.Writing.{serviceBits, contentBits, checked, string, writeTests, writeAnswer, writing, ReadsBack}
 use Rattle.format.proofs.FieldLaws.{or-left, information-sound, length-codes, length-markBits}
 use Rattle.format.proofs.Information.{every-type, length-information, string-filled, raw-few}
-use Rattle.format.proofs.Order.{done-then, refused-then, then-pass, when-pass}
+use Rattle.format.proofs.Order.{passed-then, refused-then, then-pass, when-pass}
 use Rattle.format.proofs.RoundTrips.{written-back}
 use Rattle.format.proofs.Writing.{Holds, ranged, length-service, length-check-of, length-string}
 
@@ -36,7 +36,7 @@ use Rattle.format.proofs.Writing.{Holds, ranged, length-service, length-check-o
 in-front : (w x n k : ℕ) (q : List Bool) → x < 2 ^ w → length q ≡ n → number q ≡ k → number (bits w x ++ q) ≡ x * 2 ^ n + k
 in-front w x n k q h l e = number-append (bits w x) q ∙ rw (number-back w x h, l, e) refl
 
-pub service-number : (r : Record) → fieldTests r ≡ Done
+pub service-number : (r : Record) → fieldTests r ≡ Passed
     → ((((((((r .kind * 64 + r .satellite) * 2 + r .signal) * 2 + r .validity) * 16 + r .call) * 2 + r .attitude) * 4 + r .correction) * 2 + r .next) * 65536
     + r .time) ≡ number (serviceBits r)
 unfolding serviceBits
@@ -82,29 +82,29 @@ check-lt t c degree p e d =
 pub service-lt : (r : Record) (x : ℕ) → x ≡ number (serviceBits r) → x < 2 ^ 38
 service-lt r x e = rw e (subst (λ (n : ℕ). number (serviceBits r) < 2 ^ n) (length-service r) (number-lt (serviceBits r)))
 
-pub tests-say : (r : Record) → recordTests r ≡ Done → let fs = information (r .kind) in
-    (ranges fs (r .numbers) 10 ≡ Done) × (unused fs (r .numbers) ≡ false) × (stray fs (r .numbers) (markBits places (r .minus)) 0 ≡ Done)
+pub tests-say : (r : Record) → recordTests r ≡ Passed → let fs = placesOf (r .kind) in
+    (ranges fs (r .numbers) 10 ≡ Passed) × (unused fs (r .numbers) ≡ false) × (stray fs (r .numbers) (markBits places (r .minus)) 0 ≡ Passed)
 unfolding recordTests
 tests-say r e =
-    let fs = information (r .kind) in
+    let fs = placesOf (r .kind) in
     let b = unused fs (r .numbers) || overfilled r in
     let e₁ = then-pass (fieldTests r) _ e in
     let e₂ = then-pass (when b NotZero) (stray fs (r .numbers) (markBits places (r .minus)) 0) (e₁ .1) in
     (ranged r (e₁ .0) .numbers, or-left _ (overfilled r) (when-pass b NotZero (e₂ .0)), e₂ .1)
 
-pub fields-pass : (r : Record) → recordTests r ≡ Done → fieldTests r ≡ Done
+pub fields-pass : (r : Record) → recordTests r ≡ Passed → fieldTests r ≡ Passed
 unfolding recordTests
 fields-pass r e = then-pass (fieldTests r) _ e .0
 
 -- ---- the string put piece by piece
 module _ (r : Record) (numbers : length (r .numbers) ≡ places) (raw : length (r .raw) ≡ rawBytes) where
   abbrev fields : List Bool
-  fields = codes (information (r .kind)) (r .numbers) (markBits places (r .minus))
+  fields = codes (placesOf (r .kind)) (r .numbers) (markBits places (r .minus))
 
-  length-fields : length fields ≡ total (information (r .kind))
+  length-fields : length fields ≡ total (placesOf (r .kind))
   length-fields =
       let t = r .kind in
-      length-codes (information t) (r .numbers) (markBits places (r .minus)) (information-sound t) (omega (arith, length-information t))
+      length-codes (placesOf t) (r .numbers) (markBits places (r .minus)) (information-sound t) (omega (arith, length-information t))
       (omega (arith, length-markBits places (r .minus), length-information t))
 
   length-raw : length (cut 0 (rawCount (r .kind)) (unpack (r .raw))) ≡ rawCount (r .kind)
@@ -127,7 +127,7 @@ module _ (r : Record) (numbers : length (r .numbers) ≡ places) (raw : length (
         ap (λ (k : ℕ). bits 50 (0x5F1 * 2 ^ 38 + k)) ex ∙ ap (bits 50) (sym a)
         ∙ bits-back 50 head length-head
 
-    sizes : 50 + total (information (r .kind)) + rawCount (r .kind) + checkBits (r .kind) ≡ lengthOf (r .kind)
+    sizes : 50 + total (placesOf (r .kind)) + rawCount (r .kind) + checkBits (r .kind) ≡ lengthOf (r .kind)
     sizes = string-filled (r .kind)
 
     with-fields : u₂ ≡ put o (head ++ fields) u₀
@@ -194,18 +194,18 @@ module _ (bytes count place : ℕ) (r : Record) where
       answered (Refused x)
       (ap (λ (z : Answer). z then recordTests r then when (ltb count (place + lengthOf (r .kind))) (RunsOut place)) (sym e ∙ f) ∙ refused-then x _)
 
-  module _ (placed : placeTests bytes count place ≡ Done) where
+  module _ (placed : placeTests bytes count place ≡ Passed) where
     only-later : writeTests bytes count place r ≡ later count place r
     unfolding writeTests
-    only-later = ap (λ (y : Answer). y then recordTests r then when (ltb count (place + lengthOf (r .kind))) (RunsOut place)) placed ∙ done-then _
+    only-later = ap (λ (y : Answer). y then recordTests r then when (ltb count (place + lengthOf (r .kind))) (RunsOut place)) placed ∙ passed-then _
 
     pub later-refuses : (x : Refusal) → later count place r ≡ Refused x → NotWritten x ≡ writing bytes count place r
     later-refuses x e = answered (Refused x) (only-later ∙ e)
 
-    pub all-pass : later count place r ≡ Done → Upto (place + lengthOf (r .kind)) ≡ writing bytes count place r
-    all-pass e = answered Done (only-later ∙ e)
+    pub all-pass : later count place r ≡ Passed → Upto (place + lengthOf (r .kind)) ≡ writing bytes count place r
+    all-pass e = answered Passed (only-later ∙ e)
 
-pub later-says : (count place : ℕ) (r : Record) → later count place r ≡ Done → (recordTests r ≡ Done) × (place + lengthOf (r .kind) ≤ count)
+pub later-says : (count place : ℕ) (r : Record) → later count place r ≡ Passed → (recordTests r ≡ Passed) × (place + lengthOf (r .kind) ≤ count)
 later-says count place r e =
     let a = then-pass (recordTests r) (when (ltb count (place + lengthOf (r .kind))) (RunsOut place)) e in
     (a .0, ltb-false count (place + lengthOf (r .kind)) (when-pass (ltb count (place + lengthOf (r .kind))) (RunsOut place) (a .1)))
@@ -217,7 +217,7 @@ refuses bytes count place r x e = (e, (refl, λ next f. let z : _≡_ {A = ℕ} 
 
 -- all clauses where the string is put into the part of the bytes that it covers
 module _ (bytes t : List ℕ) (count place long : ℕ) (r : Record) (holds : Holds r) (el : long ≡ lengthOf (r .kind))
-    (placed : placeTests (length bytes) count place ≡ Done) (passed : later count place r ≡ Done) (inside : count ≤ 8 * length bytes) where
+    (placed : placeTests (length bytes) count place ≡ Passed) (passed : later count place r ≡ Passed) (inside : count ≤ 8 * length bytes) where
   room : place + long ≤ count
   room = omega (arith, later-says count place r passed .1)
 

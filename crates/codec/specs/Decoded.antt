@@ -8,7 +8,7 @@ use Rattle.bits.specs.Bits.{bit, bits}
 use Rattle.bits.specs.Signed.{signedOf, isMinusZero}
 use Rattle.format.specs.Fields.{values, minusZeros}
 use Rattle.format.specs.Records.{markOf}
-use Rattle.format.specs.Types.{information}
+use Rattle.format.specs.Types.{placesOf}
 use Rattle.codec.specs.declared.Numbers.{Numbers}
 
 -- The number that a field of `width` bits stands for, signed or not.
@@ -21,5 +21,5 @@ markBit signed width x i = bit (signed && isMinusZero (bits width x)) * 2 ^ i
 
 -- The numbers and the mark of a type's information fields at the front of these bits.
 pub record Holds (kind : ℕ) (p : List Bool) (r : Numbers) : Type 0 where
-  pub numbers : r .numbers ≡ values (information kind) p
-  pub mark : r .minus ≡ markOf (minusZeros (information kind) p)
+  pub numbers : r .numbers ≡ values (placesOf kind) p
+  pub mark : r .minus ≡ markOf (minusZeros (placesOf kind) p)

@@ -20,9 +20,9 @@ ghost use Rattle.codec.specs.Decoded.{numberOf, markBit, Holds};
 ghost use Rattle.format.specs.Fields.{total};
 ghost use Rattle.format.specs.Reading.{recordAt, placeTests, stringTests, beside, reading};
 ghost use Rattle.format.specs.Strings.{typeAt, lengthOf, generatorOf};
-ghost use Rattle.format.specs.Types.{information};
+ghost use Rattle.format.specs.Types.{placesOf};
 ghost use Rattle.format.specs.Writing.{writing, bytesAfter, ReadsBack, WritesBack};
-ghost use Rattle.format.specs.declared.Answer.the-variants.{Done};
+ghost use Rattle.format.specs.declared.Answer.the-variants.{Passed};
 ghost use Rattle.format.specs.declared.Written.the-variants.{Upto};
 ghost use Rattle.format.specs.declared.Refusal.the-variants.{RunsOut};
 
@@ -58,7 +58,7 @@ fn mark_bit(signed: bool, width: usize, x: u64, i: usize) -> u16
 
 // The numbers of a type's information fields, from the place `from` on.
 fn numbers_at(part: &[u8], from: usize, kind: u8) -> Numbers
-    requires { ⌜ (from + total (information kind) ≤ 8 * length (now part)) × (from + total (information kind) < 2 ^ 64) ⌝ }
+    requires { ⌜ (from + total (placesOf kind) ≤ 8 * length (now part)) × (from + total (placesOf kind) < 2 ^ 64) ⌝ }
     ensures { λ r. ⌜ Holds kind (drop from (unpack (now (part .entry)))) r ⌝ }
 {
     let row = records::rows::row_of(kind);
@@ -133,7 +133,7 @@ fn place_tests(bytes: usize, count: usize, place: usize) -> Answer
     if place > count {
         return Answer::Refused(Refusal::BeyondCount(place));
     }
-    Answer::Done
+    Answer::Passed
 }
 
 // Whether the generator of a type divides the `count` bits from the place `offset`.
@@ -171,7 +171,7 @@ fn string_tests(rec: &[u8], count: usize, place: usize) -> Answer
     }
     let end = (offset + long + 7) / 8;
     if check_passes(&part[0..end], offset, long, kind) {
-        return Answer::Done;
+        return Answer::Passed;
     }
     Answer::Refused(Refusal::CheckFails(place))
 }
@@ -211,17 +211,17 @@ fn blank_record() -> Record
 // Reads the string at a place: the answer, beside the record or a blank one.
 pub fn read(rec: &[u8], count: usize, place: usize) -> Reading
     ensures { λ r. ⌜ r ≡ reading (now (rec .entry)) count place ⌝ }
-    ensures { λ r. ⌜ (r .answer ≡ Done → WritesBack (now (rec .entry)) count place (r .content)) ⌝ }
+    ensures { λ r. ⌜ (r .answer ≡ Passed → WritesBack (now (rec .entry)) count place (r .content)) ⌝ }
 {
     let early = place_tests(rec.len(), count, place);
-    if !records::is_done(early) {
+    if !records::is_passed(early) {
         return Reading {
             answer: early,
             content: blank_record(),
         };
     }
     let found = string_tests(rec, count, place);
-    if !records::is_done(found) {
+    if !records::is_passed(found) {
         return Reading {
             answer: found,
             content: blank_record(),
@@ -229,14 +229,14 @@ pub fn read(rec: &[u8], count: usize, place: usize) -> Reading
     }
     let content = record_at(rec, count, place);
     let tested = records::field_tests(content);
-    if !records::is_done(tested) {
+    if !records::is_passed(tested) {
         return Reading {
             answer: tested,
             content: blank_record(),
         };
     }
     Reading {
-        answer: Answer::Done,
+        answer: Answer::Passed,
         content,
     }
 }
@@ -250,7 +250,7 @@ fn room_test(count: usize, place: usize, kind: u8) -> Answer
     if long > count - place {
         return Answer::Refused(Refusal::RunsOut(place));
     }
-    Answer::Done
+    Answer::Passed
 }
 
 // Writes a record's string at a place, and answers the place after it. A refusal leaves every byte unchanged.

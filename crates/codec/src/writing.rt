@@ -7,11 +7,11 @@ ghost use lib.IntN.{pos, natAbs};
 ghost use lib.ListN.{length};
 ghost use Rattle.bits.specs.Bits.{number, bits, unpack, cut, put};
 ghost use Rattle.cyclic.specs.Register.{check};
-ghost use Rattle.format.specs.declared.Answer.the-variants.{Done};
+ghost use Rattle.format.specs.declared.Answer.the-variants.{Passed};
 ghost use Rattle.format.specs.Fields.{total, codes};
 ghost use Rattle.format.specs.Records.{ranges, unused, stray, markBits, fieldTests, recordTests};
 ghost use Rattle.format.specs.Strings.{lengthOf, generatorOf, checkBits};
-ghost use Rattle.format.specs.Types.{places, information};
+ghost use Rattle.format.specs.Types.{places, placesOf};
 ghost use Rattle.format.specs.Writing.{serviceBits, string};
 ghost use Rattle.codec.specs.Coded.{codeOf, afterHeld};
 
@@ -60,9 +60,9 @@ fn hold(part: &mut [u8], held: Held, width: usize, x: u64) -> Held
 
 // Puts the bits of a type's information fields from the place `from` on.
 fn put_numbers(part: &mut [u8], from: usize, kind: u8, numbers: [i64; 16], minus: u16)
-    requires { ⌜ (from + total (information kind) ≤ 8 * length (now part)) × (from + total (information kind) < 2 ^ 64) ⌝ }
-    requires { ⌜ (ranges (information kind) numbers 10 ≡ Done) × (unused (information kind) numbers ≡ false) × (stray (information kind) numbers (markBits places minus) 0 ≡ Done) ⌝ }
-    ensures { λ _. ⌜ unpack (now (part .exit)) ≡ put from (codes (information kind) numbers (markBits places minus)) (unpack (now (part .entry))) ⌝ }
+    requires { ⌜ (from + total (placesOf kind) ≤ 8 * length (now part)) × (from + total (placesOf kind) < 2 ^ 64) ⌝ }
+    requires { ⌜ (ranges (placesOf kind) numbers 10 ≡ Passed) × (unused (placesOf kind) numbers ≡ false) × (stray (placesOf kind) numbers (markBits places minus) 0 ≡ Passed) ⌝ }
+    ensures { λ _. ⌜ unpack (now (part .exit)) ≡ put from (codes (placesOf kind) numbers (markBits places minus)) (unpack (now (part .entry))) ⌝ }
 {
     let row = records::rows::row_of(kind);
     let widths = row.widths;
@@ -86,7 +86,7 @@ fn put_numbers(part: &mut [u8], from: usize, kind: u8, numbers: [i64; 16], minus
 
 // The service bits of a record, bits 13 to 50, as a number.
 fn service(r: Record) -> u64
-    requires { ⌜ fieldTests r ≡ Done ⌝ }
+    requires { ⌜ fieldTests r ≡ Passed ⌝ }
     ensures { λ w. ⌜ w ≡ number (serviceBits r) ⌝ }
 {
     let satellite = r.kind as u64 * 64 + r.satellite as u64;
@@ -129,7 +129,7 @@ fn put_raw(part: &mut [u8], to: usize, raw: [u8; 38], n: usize)
 
 // Puts the string of a record at the place `offset`.
 pub fn put_string(part: &mut [u8], offset: usize, r: Record)
-    requires { ⌜ (offset < 8) × (offset + lengthOf (r .kind) ≤ 8 * length (now part)) × (recordTests r ≡ Done) ⌝ }
+    requires { ⌜ (offset < 8) × (offset + lengthOf (r .kind) ≤ 8 * length (now part)) × (recordTests r ≡ Passed) ⌝ }
     ensures { λ _. ⌜ unpack (now (part .exit)) ≡ put offset (string r) (unpack (now (part .entry))) ⌝ }
 {
     let kind = r.kind;

@@ -13,7 +13,7 @@ use Rattle.format.specs.Reading.{reading}
 use Rattle.format.specs.Values.{powerOf, countOf, IsScaled, scaling}
 use Rattle.format.specs.Writing.{writing, bytesAfter, ReadsBack, WritesBack}
 use Rattle.format.specs.declared.Answer.{Answer}
-use Rattle.format.specs.declared.Answer.the-variants.{Done, Refused}
+use Rattle.format.specs.declared.Answer.the-variants.{Passed, Refused}
 use Rattle.format.specs.declared.Listed.{Listed}
 use Rattle.format.specs.declared.Reading.{Reading}
 use Rattle.format.specs.declared.Record.{Record}
@@ -52,8 +52,8 @@ not-zero (ListShort count) e = omega arith
 not-zero (MinusZero bit) e = omega arith
 not-zero NotZero e = omega arith
 
-zero-done : (a : Answer) → answerCode a .0 ≡ 0 → a ≡ Done
-zero-done Done e = refl
+zero-done : (a : Answer) → answerCode a .0 ≡ 0 → a ≡ Passed
+zero-done Passed e = refl
 zero-done (Refused r) e = absurd (not-zero r e)
 
 zero-number : (v : Value) → valueCode v .0 ≡ 0 → v ≡ Number (valueCode v .2)
@@ -79,7 +79,7 @@ module _ (bytes : List ℕ) (count : ℕ) where
   )
 
   pub reads : (place : ℕ) (found : Reading) (r : Code) → found ≡ reading bytes count place
-      → (found .answer ≡ Done → WritesBack bytes count place (found .content)) → Says r (answerCode (found .answer))
+      → (found .answer ≡ Passed → WritesBack bytes count place (found .content)) → Says r (answerCode (found .answer))
       → (beside r (found .content) ≡ readCoded (reading bytes count place)) × (r .number ≡ 0 → WritesBack bytes count place (found .content))
   reads place found r f w e = (
     ap (λ (k : Code). beside k (found .content)) (code-is r (answerCode (found .answer)) e) ∙ ap readCoded f,

@@ -15,14 +15,14 @@ use mir.Val.{SFits, ofZ}
 use borrow.Author.Tests.{not-true, ne-eqb}
 use Rattle.format.proofs.Information.{length-information}
 use Rattle.format.specs.declared.Answer.{Answer}
-use Rattle.format.specs.declared.Answer.the-variants.{Done, Refused}
+use Rattle.format.specs.declared.Answer.the-variants.{Passed, Refused}
 use Rattle.format.specs.declared.Refusal.{Refusal}
 use Rattle.format.specs.declared.Refusal.the-variants.{OutOfRange}
 use Rattle.format.specs.Answers.{_then_}
-use Rattle.format.proofs.Order.{done-then}
+use Rattle.format.proofs.Order.{passed-then}
 use Rattle.format.specs.Fields.{Field, unsigned, signed, absent, width, least, most, inRange}
 use Rattle.format.specs.Records.{ranges, isZero}
-use Rattle.format.specs.Types.{information}
+use Rattle.format.specs.Types.{placesOf}
 use Rattle.records.specs.declared.rows.Row.{Row}
 use Rattle.records.specs.Rows.{Describes, takes}
 use Rattle.records.proofs.Table.{wide, allWide, wide-at, all-wide, width-at, least-at, most-at}
@@ -65,7 +65,7 @@ ranges-step absent fs gs v vs ws n y e = e
 pub ranges-append : (fs gs : List Field) (vs ws : List ℤ) (n : ℕ) → length fs ≡ length vs
     → ranges (fs ++ gs) (vs ++ ws) n ≡ (ranges fs vs n then ranges gs ws (n + length fs))
 unfolding ranges
-ranges-append [] gs [] ws n l = rw (done-then, add-zero n)
+ranges-append [] gs [] ws n l = rw (passed-then, add-zero n)
 ranges-append [] gs (v ∷ vs) ws n l = absurd (omega arith)
 ranges-append (f ∷ fs) gs [] ws n l = absurd (omega arith)
 ranges-append (f ∷ fs) gs (v ∷ vs) ws n l =
@@ -73,11 +73,11 @@ ranges-append (f ∷ fs) gs (v ∷ vs) ws n l =
     rw o (ranges-step f fs gs v vs ws n _ (ranges-append fs gs vs ws (suc n) (omega arith)))
 
 -- where all pass, the field at i takes its number
-cond-pass : (b : Bool) (x : Answer) (r : Refusal) → cond b x (Refused r) ≡ Done → (b ≡ true) × (x ≡ Done)
+cond-pass : (b : Bool) (x : Answer) (r : Refusal) → cond b x (Refused r) ≡ Passed → (b ≡ true) × (x ≡ Passed)
 cond-pass true x r e = (refl, e)
 cond-pass false x r e = let z : _≡_ {A = ℕ} 0 1 = cc in absurd (omega arith)
 
-pub ranges-pass : (fs : List Field) (vs : List ℤ) (n i : ℕ) → allWide fs ≡ true → length fs ≡ length vs → ranges fs vs n ≡ Done
+pub ranges-pass : (fs : List Field) (vs : List ℤ) (n i : ℕ) → allWide fs ≡ true → length fs ≡ length vs → ranges fs vs n ≡ Passed
     → takes (width (getD fs i absent)) (least (getD fs i absent)) (most (getD fs i absent)) (getD vs i (pos 0)) ≡ true
 ranges-pass [] vs n i w l e = refl
 ranges-pass (f ∷ fs) [] n i w l e = absurd (omega arith)
@@ -98,22 +98,22 @@ module _ (fs : List Field) (vs : List ℤ) (n i : ℕ) (w : allWide fs ≡ true)
       let g : i < length vs = omega arith in
       rw (drop-cons fs i absent, drop-cons vs i (pos 0), o, add-one i, ranges-cons _ _ _ _ _ (wide-at fs i w))
 
-pub ranges-end : (fs : List Field) (vs : List ℤ) (n i : ℕ) → length fs ≤ i → ranges (drop i fs) (drop i vs) n ≡ Done
+pub ranges-end : (fs : List Field) (vs : List ℤ) (n i : ℕ) → length fs ≤ i → ranges (drop i fs) (drop i vs) n ≡ Passed
 unfolding ranges
 ranges-end fs vs n i h = rw (drop-of-length-le fs)
 
 -- a turn of the code's loop: it tests the number at i by the row, x is what it finds
-module _ (t i : ℕ) (vs : List ℤ) {row : Row} {lo hi v : ℤ} {x : Bool} (d : Describes (information t) row) (h : i < 16) (l : length vs ≡ 16)
+module _ (t i : ℕ) (vs : List ℤ) {row : Row} {lo hi v : ℤ} {x : Bool} (d : Describes (placesOf t) row) (h : i < 16) (l : length vs ≡ 16)
     (a : lo ≡ getD (row .least) i (pos 0)) (b : hi ≡ getD (row .most) i (pos 0)) (e : v ≡ getD vs i (pos 0)) (k : x ≡ takes (getD (row .widths) i 0) lo hi v) where
-  row-turn : ranges (drop i (information t)) (drop i vs) (10 + i)
-      ≡ cond x (ranges (drop (i + 1) (information t)) (drop (i + 1) vs) (10 + (i + 1))) (Refused (OutOfRange (10 + i)))
+  row-turn : ranges (drop i (placesOf t)) (drop i vs) (10 + i)
+      ≡ cond x (ranges (drop (i + 1) (placesOf t)) (drop (i + 1) vs) (10 + (i + 1))) (Refused (OutOfRange (10 + i)))
   row-turn =
-      let g : i < length (information t) = omega (arith, length-information t) in
-      let m : length (information t) ≡ length vs = omega (arith, length-information t) in
-      rw (k, a, b, e, width-at d i, least-at d i, most-at d i, ranges-turn (information t) vs 10 i (all-wide t) g m)
+      let g : i < length (placesOf t) = omega (arith, length-information t) in
+      let m : length (placesOf t) ≡ length vs = omega (arith, length-information t) in
+      rw (k, a, b, e, width-at d i, least-at d i, most-at d i, ranges-turn (placesOf t) vs 10 i (all-wide t) g m)
 
-  pub row-takes : x ≡ true → ranges (drop (i + 1) (information t)) (drop (i + 1) vs) (10 + (i + 1)) ≡ ranges (drop i (information t)) (drop i vs) (10 + i)
+  pub row-takes : x ≡ true → ranges (drop (i + 1) (placesOf t)) (drop (i + 1) vs) (10 + (i + 1)) ≡ ranges (drop i (placesOf t)) (drop i vs) (10 + i)
   row-takes f = rw (row-turn, f)
 
-  pub row-refuses : x ≡ false → Refused (OutOfRange (10 + i)) ≡ ranges (drop i (information t)) (drop i vs) (10 + i)
+  pub row-refuses : x ≡ false → Refused (OutOfRange (10 + i)) ≡ ranges (drop i (placesOf t)) (drop i vs) (10 + i)
   row-refuses f = rw (row-turn, f)

@@ -7,7 +7,7 @@ use lib.Dec.{eqb}
 use lib.IntN.{pos}
 use lib.ListN.{getD, List·getD-map}
 use Rattle.format.specs.Fields.{Field, unsigned, signed, absent, width, isSigned, least, most, power}
-use Rattle.format.specs.Types.{information}
+use Rattle.format.specs.Types.{placesOf}
 use Rattle.format.proofs.Information.{every-type}
 use Rattle.records.specs.declared.rows.Row.{Row}
 use Rattle.records.specs.Rows.{Describes}
@@ -24,7 +24,7 @@ abbrev pub allWide : List Field → Bool
 allWide [] = true
 allWide (f ∷ fs) = wide f && allWide fs
 
-pub all-wide : (t : ℕ) → allWide (information t) ≡ true
+pub all-wide : (t : ℕ) → allWide (placesOf t) ≡ true
 all-wide = every-type (λ l g fs. allWide fs ≡ true) refl refl refl refl refl refl refl refl
 
 pub wide-at : (fs : List Field) (i : ℕ) → allWide fs ≡ true → wide (getD fs i absent) ≡ true

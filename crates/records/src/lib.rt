@@ -11,17 +11,17 @@ ghost use lib.Signed.{leZ};
 ghost use Rattle.bits.specs.Bits.{odd};
 ghost use Rattle.format.specs.declared.Answer.the-variants.{Refused};
 ghost use Rattle.format.specs.declared.Refusal.the-variants.{OutOfRange, OtherOrbit, NotZero};
-ghost use Rattle.format.specs.Answers.{isDone, when, _then_};
+ghost use Rattle.format.specs.Answers.{isPassed, when, _then_};
 ghost use Rattle.format.specs.Records.{ranges, numbersOf, isZero, fieldTests, unused, stray, markBits, recordTests};
-ghost use Rattle.format.specs.Types.{places, information, fieldsOf};
+ghost use Rattle.format.specs.Types.{places, placesOf, fieldsOf};
 ghost use Rattle.records.specs.Rows.{takes};
 
 // Whether an answer is no refusal.
-pub fn is_done(a: Answer) -> bool
-    ensures { λ r. ⌜ r ≡ isDone a ⌝ }
+pub fn is_passed(a: Answer) -> bool
+    ensures { λ r. ⌜ r ≡ isPassed a ⌝ }
 {
     match a {
-        Answer::Done => true,
+        Answer::Passed => true,
         Answer::Refused(_) => false,
     }
 }
@@ -30,7 +30,7 @@ pub fn is_done(a: Answer) -> bool
 pub fn first(a: Answer, b: Answer) -> Answer
     ensures { λ r. ⌜ r ≡ (a then b) ⌝ }
 {
-    if is_done(a) { b } else { a }
+    if is_passed(a) { b } else { a }
 }
 
 // Whether a number is in a range.
@@ -53,7 +53,7 @@ fn in_range(width: u8, least: i64, most: i64, v: i64) -> bool
 
 // The first of fields 10 on that is out of range.
 fn number_ranges(kind: u8, numbers: [i64; 16]) -> Answer
-    ensures { λ a. ⌜ a ≡ ranges (information kind) numbers 10 ⌝ }
+    ensures { λ a. ⌜ a ≡ ranges (placesOf kind) numbers 10 ⌝ }
 {
     let row = rows::row_of(kind);
     let widths = row.widths;
@@ -66,7 +66,7 @@ fn number_ranges(kind: u8, numbers: [i64; 16]) -> Answer
         }
         i += 1;
     }
-    Answer::Done
+    Answer::Passed
 }
 
 // What the fields past this one answer, if its number is from low to high; else that it is out of range.
@@ -107,7 +107,7 @@ fn orbit_test(kind: u8, orbit: i64) -> Answer
             return Answer::Refused(Refusal::OtherOrbit);
         }
     }
-    Answer::Done
+    Answer::Passed
 }
 
 // The tests of a record's fields: 7, then 8.
@@ -129,7 +129,7 @@ fn misplaced(width: u8, v: i64) -> bool
 
 // Whether a place that the type does not use is not 0.
 fn unused(kind: u8, numbers: [i64; 16]) -> bool
-    ensures { λ b. ⌜ b ≡ unused (information kind) numbers ⌝ }
+    ensures { λ b. ⌜ b ≡ unused (placesOf kind) numbers ⌝ }
 {
     let row = rows::row_of(kind);
     let widths = row.widths;
@@ -163,7 +163,7 @@ fn strays(marks: u16, signed: bool, v: i64) -> bool
 
 // The lowest bit of the minus-zero mark on a number that is not a signed field's zero.
 fn stray(kind: u8, numbers: [i64; 16], minus: u16) -> Answer
-    ensures { λ a. ⌜ a ≡ stray (information kind) numbers (markBits places minus) 0 ⌝ }
+    ensures { λ a. ⌜ a ≡ stray (placesOf kind) numbers (markBits places minus) 0 ⌝ }
 {
     let row = rows::row_of(kind);
     let signs = row.signed;
@@ -176,15 +176,15 @@ fn stray(kind: u8, numbers: [i64; 16], minus: u16) -> Answer
         marks /= 2;
         i += 1;
     }
-    Answer::Done
+    Answer::Passed
 }
 
 // The same, at once where there is no mark.
 fn marks_test(kind: u8, numbers: [i64; 16], minus: u16) -> Answer
-    ensures { λ a. ⌜ a ≡ stray (information kind) numbers (markBits places minus) 0 ⌝ }
+    ensures { λ a. ⌜ a ≡ stray (placesOf kind) numbers (markBits places minus) 0 ⌝ }
 {
     if minus == 0 {
-        return Answer::Done;
+        return Answer::Passed;
     }
     stray(kind, numbers, minus)
 }
@@ -197,7 +197,7 @@ fn zero_test(misplaced: bool, clear: bool) -> Answer
         return Answer::Refused(Refusal::NotZero);
     }
     if clear {
-        Answer::Done
+        Answer::Passed
     } else {
         Answer::Refused(Refusal::NotZero)
     }

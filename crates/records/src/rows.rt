@@ -1,6 +1,6 @@
 // The table of the types' fields, fields 10 on.
 ghost use mathlib.Core.Path.{_≡_};
-ghost use Rattle.format.specs.Types.{information, rawCount};
+ghost use Rattle.format.specs.Types.{placesOf, rawCount};
 ghost use Rattle.records.specs.Rows.{Describes};
 
 // Fields 10 on of a type: width, whether signed, least, most and power; all 0 at the places that the type does not use.
@@ -322,7 +322,7 @@ const NO_FIELDS: Row = Row {
 
 // The row of a type.
 pub fn row_of(kind: u8) -> Row
-    ensures { λ r. ⌜ Describes (information kind) r ⌝ }
+    ensures { λ r. ⌜ Describes (placesOf kind) r ⌝ }
 {
     match kind {
         10 => TYPE10,

@@ -17,12 +17,12 @@ use Rattle.format.proofs.FieldLaws.{cond-pass, range-most, range-size}
 use Rattle.format.proofs.Information.{every-type, length-information}
 use Rattle.format.proofs.Order.{then-pass}
 use Rattle.format.proofs.Writing.{ranged}
-use Rattle.format.specs.declared.Answer.the-variants.{Done}
+use Rattle.format.specs.declared.Answer.the-variants.{Passed}
 use Rattle.format.specs.declared.Record.{Record}
 use Rattle.format.specs.declared.Refusal.the-variants.{OutOfRange}
 use Rattle.format.specs.Fields.{Field, unsigned, signed, absent, power, inRange}
 use Rattle.format.specs.Records.{numbersOf, ranges, fieldTests, recordTests}
-use Rattle.format.specs.Types.{service, information, fieldsOf}
+use Rattle.format.specs.Types.{service, placesOf, fieldsOf}
 use Rattle.format.specs.Values.{powerOf, countOf}
 
 -- ---- by number
@@ -39,14 +39,14 @@ plain-at (f ∷ fs) (suc n) e = plain-at fs n (and-eq-true-iff (eqb (power f) 0)
 -- no service field has a power
 pub power-early : (t n : ℕ) → n < 10 → powerOf t n ≡ 0
 unfolding powerOf
-power-early t n h = ap power (List·getD-append (absent ∷ service) (information t) absent n h) ∙ plain-at (absent ∷ service) n refl
+power-early t n h = ap power (List·getD-append (absent ∷ service) (placesOf t) absent n h) ∙ plain-at (absent ∷ service) n refl
 
-pub power-at : (t i : ℕ) → powerOf t (10 + i) ≡ power (getD (information t) i absent)
+pub power-at : (t i : ℕ) → powerOf t (10 + i) ≡ power (getD (placesOf t) i absent)
 unfolding powerOf
 power-at t i = ap power (sym (getD-drop 10 (absent ∷ fieldsOf t) i absent))
 
 pub power-past : (t i : ℕ) → 16 ≤ i → powerOf t (10 + i) ≡ 0
-power-past t i h = power-at t i ∙ ap power (List·getD-eq-default (information t) absent (omega (arith, length-information t)))
+power-past t i h = power-at t i ∙ ap power (List·getD-eq-default (placesOf t) absent (omega (arith, length-information t)))
 
 -- only fields 10 to 25 have one
 pub powered : (t n : ℕ) → (powerOf t n ≡ 0 → ⊥) → (10 ≤ n) × (n - 10 < 16)
@@ -76,7 +76,7 @@ abbrev allFew : List Field → Bool
 allFew [] = true
 allFew (f ∷ fs) = few f && allFew fs
 
-information-few : (t : ℕ) → allFew (information t) ≡ true
+information-few : (t : ℕ) → allFew (placesOf t) ≡ true
 information-few = every-type (λ l g fs. allFew fs ≡ true) refl refl refl refl refl refl refl refl
 
 few-unsigned : (w a b k : ℕ) (v : ℤ) → inRange (unsigned w a b k) v ≡ true → b < 2 ^ 53 → natAbs v < 2 ^ 53
@@ -84,7 +84,7 @@ unfolding inRange
 few-unsigned w a b k (pos n) e h = lt-of-le-of-lt (range-most w a b k n e) h
 few-unsigned w a b k (negsuc n) e h = absurd (false≢true e)
 
-few-at : (fs : List Field) (vs : List ℤ) (n i : ℕ) → allFew fs ≡ true → ranges fs vs n ≡ Done → i < length vs → (power (getD fs i absent) ≡ 0 → ⊥)
+few-at : (fs : List Field) (vs : List ℤ) (n i : ℕ) → allFew fs ≡ true → ranges fs vs n ≡ Passed → i < length vs → (power (getD fs i absent) ≡ 0 → ⊥)
     → natAbs (getD vs i (pos 0)) < 2 ^ 53
 unfolding ranges
 few-at [] vs n i e d h p = absurd (p refl)
@@ -103,10 +103,10 @@ few-at (signed w k ∷ fs) (v ∷ vs) n (suc i) e d h p =
     few-at fs vs (suc n) i (and-eq-true-iff (few (signed w k)) _ .0 e .1) (cond-pass (inRange (signed w k) v) (ranges fs vs (suc n)) (OutOfRange n) d .1) (le-of-suc-le-suc h) p
 
 -- a record that passes its tests has such a count in each field with a power
-pub count-few : (r : Record) (i : ℕ) → recordTests r ≡ Done → i < length (r .numbers) → (powerOf (r .kind) (10 + i) ≡ 0 → ⊥) → natAbs (getD (r .numbers) i (pos 0)) < 2 ^ 53
+pub count-few : (r : Record) (i : ℕ) → recordTests r ≡ Passed → i < length (r .numbers) → (powerOf (r .kind) (10 + i) ≡ 0 → ⊥) → natAbs (getD (r .numbers) i (pos 0)) < 2 ^ 53
 unfolding recordTests
 count-few r i d h p =
-    few-at (information (r .kind)) (r .numbers) 10 i (information-few (r .kind)) (ranged r (then-pass (fieldTests r) _ d .0) .numbers) h
+    few-at (placesOf (r .kind)) (r .numbers) 10 i (information-few (r .kind)) (ranged r (then-pass (fieldTests r) _ d .0) .numbers) h
     (λ e. p (power-at (r .kind) i ∙ e))
 
 -- ---- a range of numbers that are not negative

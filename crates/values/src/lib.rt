@@ -87,7 +87,7 @@ pub fn scaled(r: Record, field: usize) -> Value
     let tests = records::record_tests(r);
     match tests {
         Answer::Refused(x) => Value::Refused(x),
-        Answer::Done => {
+        Answer::Passed => {
             let k = power_of(r.kind, field);
             if k == 0 {
                 return Value::Refused(Refusal::OutOfRange(field));

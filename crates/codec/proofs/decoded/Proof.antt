@@ -8,7 +8,7 @@ use Rattle.format.specs.Records.{rawBytes}
 use Rattle.format.proofs.Agree.{length-unit}
 use Rattle.format.proofs.Information.{string-filled, raw-few}
 use Rattle.format.specs.Fields.{total}
-use Rattle.format.specs.Types.{information, rawCount}
+use Rattle.format.specs.Types.{placesOf, rawCount}
 use Rattle.format.specs.Strings.{typeAt, lengthOf}
 use Rattle.bits.proofs.Bytes.{length-unpack}
 use Rattle.bits.specs.Bits.{unpack, cut, put, pack}
@@ -41,7 +41,7 @@ numbers-at-requires c κs =
     let u = unpack (s .args .part .now) in
     let l = length-unpack (s .args .part .now) in
     let h : o + lengthOf (typeAt u o) ≤ length u = omega (arith, s .pre .1) in
-    let k = ap (λ (t : ℕ). total (information t)) (kind-is u o h _ (c .field .ensures)) in
+    let k = ap (λ (t : ℕ). total (placesOf t)) (kind-is u o h _ (c .field .ensures)) in
     let r = fields-room u o h in
     (omega arith, omega (arith, length-unit (typeAt u o), string-filled (typeAt u o)))
 

@@ -13,11 +13,11 @@ use Rattle.bits.proofs.Bytes.{length-unpack}
 use Rattle.bits.proofs.field.Reads as field-reads
 use Rattle.bits.specs.Bits.{number, unpack, cut}
 use Rattle.format.specs.Fields.{total}
-use Rattle.format.specs.Types.{information}
+use Rattle.format.specs.Types.{placesOf}
 use Rattle.records.proofs.Table.{width-at, sign-at}
 use Rattle.records.proofs.rows.row_of.Reads as row-of-reads
 use Rattle.records.specs.Rows.{Describes}
-use Rattle.codec.proofs.Decoding.{Come, come-start, width-bound, sign-bound, field-fits, mark-fits, come-on, come-all}
+use Rattle.codec.proofs.Decoding.{ReadSoFar, read-start, width-bound, sign-bound, field-fits, mark-fits, read-on, read-all}
 use Rattle.codec.proofs.mark_bit.Reads as mark-bit-reads
 use Rattle.codec.proofs.number_of.Reads as number-of-reads
 use Rattle.codec.proofs.numbers_at.Lts as lts
@@ -26,7 +26,7 @@ use Rattle.codec.proofs.numbers_at.Statement.{statement}
 use Rattle.codec.proofs.numbers_at.Tie as tie
 
 abbrev Inv-loop : tie.InvT-loop
-Inv-loop part from kind widths signs numbers₀ minus₀ at₀ i₀ numbers minus at i = (i ≤ 16) × Come (unpack part) from kind numbers minus at i
+Inv-loop part from kind widths signs numbers₀ minus₀ at₀ i₀ numbers minus at i = (i ≤ 16) × ReadSoFar (unpack part) from kind numbers minus at i
 
 abbrev μ-loop : tie.MeasureT-loop
 μ-loop part from kind widths signs numbers₀ minus₀ at₀ i₀ numbers minus at i = 16 - i
@@ -35,7 +35,7 @@ row-of-requires : tie.Need-row-of-requires Inv-loop μ-loop
 row-of-requires c κs = search needs
 
 loop-holds : tie.Need-loop-holds Inv-loop μ-loop
-loop-holds c = let s = c .before .before .before .before in (omega arith, come-start (unpack (s .args .part .now)) (s .args .from) (s .args .kind) _ refl)
+loop-holds c = let s = c .before .before .before .before in (omega arith, read-start (unpack (s .args .part .now)) (s .args .from) (s .args .kind) _ refl)
 
 array-read-width : tie.Need-array-read-width Inv-loop μ-loop
 array-read-width c = search needs
@@ -60,7 +60,7 @@ module _ (p : lts.In-loop (row-of-reads.Asked, row-of-reads.Learnt, field-reads.
   below : q .loop .i < 16
   below = search needs
 
-  row : Describes (information (s .args .kind)) (q .before .before .before .row-of .result)
+  row : Describes (placesOf (s .args .kind)) (q .before .before .before .row-of .result)
   row = q .before .before .before .row-of .ensures
 
   abbrev w : ℕ
@@ -70,10 +70,10 @@ module _ (p : lts.In-loop (row-of-reads.Asked, row-of-reads.Learnt, field-reads.
   narrow : w ≤ 40
   narrow = width-bound u (s .args .from) (s .args .kind) (q .loop .i) below (width-at row (q .loop .i))
 
-  inside : q .loop .at + w ≤ s .args .from + total (information (s .args .kind))
+  inside : q .loop .at + w ≤ s .args .from + total (placesOf (s .args .kind))
   inside = field-fits u (s .args .from) (s .args .kind) (q .loop .i) below (q .loop .inv .1) (width-at row (q .loop .i))
 
-  room : s .args .from + total (information (s .args .kind)) ≤ length u
+  room : s .args .from + total (placesOf (s .args .kind)) ≤ length u
   room = omega (arith, length-unpack (s .args .part .now), s .pre .0)
 
   signed-wide : getD (q .before .before .before .row-of .result .signed) (q .loop .i) false ≡ true → 2 ≤ w
@@ -101,7 +101,7 @@ add-minus : tie.Need-add-minus Inv-loop μ-loop
 add-minus c =
     let p = c .before .before .before in
     let i = q p .loop .i in
-    let on = come-on (u p) (s p .args .from) (s p .args .kind) i _ (c .before .before .field .result) _ _ _ (q p .loop .inv .1) (below p) (room p) (width-at (row p) i) (sign-at (row p) i)
+    let on = read-on (u p) (s p .args .from) (s p .args .kind) i _ (c .before .before .field .result) _ _ _ (q p .loop .inv .1) (below p) (room p) (width-at (row p) i) (sign-at (row p) i)
     (c .before .before .field .ensures) (c .before .number-of .ensures) (c .mark-bit .ensures) in
     record { fits = mark-fits (u p) (s p .args .from) (s p .args .kind) on }
 
@@ -118,14 +118,14 @@ loop-again : tie.Need-loop-again Inv-loop μ-loop
 loop-again c =
     let p = c .before .before .before in
     let i = q p .loop .i in
-    let on = come-on (u p) (s p .args .from) (s p .args .kind) i _ (c .before .before .field .result) _ _ _ (q p .loop .inv .1) (below p) (room p) (width-at (row p) i) (sign-at (row p) i)
+    let on = read-on (u p) (s p .args .from) (s p .args .kind) i _ (c .before .before .field .result) _ _ _ (q p .loop .inv .1) (below p) (room p) (width-at (row p) i) (sign-at (row p) i)
     (c .before .before .field .ensures) (toZ-ofZ {w = w64} (record { sfits = c .before .number-of .ok }) ∙ c .before .number-of .ensures) (c .mark-bit .ensures) in
     (omega arith, on)
 
 returns : tie.Need-returns Inv-loop μ-loop
 returns c =
     let s = c .before .before .before .before .before .before in
-    let e = come-all (unpack (s .args .part .now)) (s .args .from) (s .args .kind) (c .before .loop .i) (c .before .loop .inv .1) (omega arith) in
+    let e = read-all (unpack (s .args .part .now)) (s .args .from) (s .args .kind) (c .before .loop .i) (c .before .loop .inv .1) (omega arith) in
     record { numbers = e .0; mark = e .1 }
 
 pub numbers-at-spec : {M : Type 1} → statement M

@@ -8,9 +8,9 @@ use mir.Syntax.{w8}
 use borrow.Author.Needs.{needs, length-unmapped, elem-fits-field}
 use Rattle.format.proofs.Agree.{length-unit}
 use Rattle.format.proofs.Writing.{Holds}
-use Rattle.format.specs.declared.Answer.the-variants.{Done}
+use Rattle.format.specs.declared.Answer.the-variants.{Passed}
 use Rattle.format.specs.declared.Refusal.the-variants.{RunsOut}
-use Rattle.format.specs.Answers.{bitLimit, isDone, when, _then_}
+use Rattle.format.specs.Answers.{bitLimit, isPassed, when, _then_}
 use Rattle.format.specs.Reading.{placeTests}
 use Rattle.format.specs.Records.{recordTests}
 use Rattle.format.specs.Strings.{lengthOf}
@@ -49,7 +49,7 @@ room-test-requires : tie.Need-room-test-requires
 room-test-requires c κs =
     let a = c .before .before .before .before .before .args in
     let p = sym (c .before .before .before .place-tests .ensures) ∙ c .before .enum-told .given .1 in
-    let f = passes-place _ (a .count) (a .place) (ap isDone p) in
+    let f = passes-place _ (a .count) (a .place) (ap isPassed p) in
     (f .0, f .2)
 
 first-requires : tie.Need-first-requires
@@ -90,19 +90,19 @@ module _ (n : lts.After-length-of (place-tests-reads.Asked, place-tests-reads.Le
   abbrev start : lts.Start (place-tests-reads.Asked, place-tests-reads.Learnt, record-tests-reads.Asked, record-tests-reads.Learnt, room-test-reads.Asked, room-test-reads.Learnt, first-reads.Asked, first-reads.Learnt, length-of-reads.Asked, length-of-reads.Learnt, put-string-reads.Asked, put-string-reads.Learnt) reads.Pre reads.Post
   start = early .before .before .before .before
 
-  place-passes : placeTests (length (start .args .rec .now)) (start .args .count) (start .args .place) ≡ Done
+  place-passes : placeTests (length (start .args .rec .now)) (start .args .count) (start .args .place) ≡ Passed
   place-passes = sym (early .before .before .place-tests .ensures) ∙ early .enum-told .given .1
 
-  later-passes : (recordTests (start .args .r) then when (ltb (start .args .count) (start .args .place + lengthOf (start .args .r .kind))) (RunsOut (start .args .place))) ≡ Done
+  later-passes : (recordTests (start .args .r) then when (ltb (start .args .count) (start .args .place + lengthOf (start .args .r .kind))) (RunsOut (start .args .place))) ≡ Passed
   later-passes =
       let f = told .before .before in
       let o = f .before in
       sym (f .first .ensures ∙ ap₂ _then_ (o .before .record-tests .ensures) (o .room-test .ensures)) ∙ told .enum-told2 .given .1
 
   inside : (start .args .count ≤ bitLimit) × (start .args .count ≤ 8 * length (start .args .rec .now)) × (start .args .place ≤ start .args .count)
-  inside = passes-place _ (start .args .count) (start .args .place) (ap isDone place-passes)
+  inside = passes-place _ (start .args .count) (start .args .place) (ap isPassed place-passes)
 
-  fits : (recordTests (start .args .r) ≡ Done) × (start .args .place + lengthOf (start .args .r .kind) ≤ start .args .count)
+  fits : (recordTests (start .args .r) ≡ Passed) × (start .args .place + lengthOf (start .args .r .kind) ≤ start .args .count)
   fits = later-says (start .args .count) (start .args .place) (start .args .r) later-passes
 
   long : n .length-of .result ≡ lengthOf (start .args .r .kind)

@@ -4,8 +4,8 @@ use Rattle.format.specs.Answers.{_then_}
 use Rattle.records.proofs.first.Statement.{statement}
 use Rattle.records.proofs.first.Tie as tie
 
-is-done-requires : tie.Need-is-done-requires
-is-done-requires c κs = search needs
+is-passed-requires : tie.Need-is-passed-requires
+is-passed-requires c κs = search needs
 
 returns : tie.Need-returns
 unfolding _then_
@@ -16,4 +16,4 @@ unfolding _then_
 returns-2 c = search needs
 
 pub first-spec : {M : Type 1} → statement M
-first-spec = tie.close (tie.spec is-done-requires returns returns-2)
+first-spec = tie.close (tie.spec is-passed-requires returns returns-2)

@@ -9,14 +9,14 @@ use borrow.Author.Needs.{needs}
 use borrow.Author.Tests.{not-true, not-false}
 use Rattle.format.proofs.Information.{length-information}
 use Rattle.format.specs.Records.{ranges}
-use Rattle.format.specs.Types.{information}
+use Rattle.format.specs.Types.{placesOf}
 use Rattle.records.proofs.Laws.{row-takes, row-refuses, ranges-end}
 use Rattle.records.proofs.number_ranges.Statement.{statement}
 use Rattle.records.proofs.number_ranges.Tie as tie
 
 abbrev Inv-loop : tie.InvT-loop
 Inv-loop kind numbers widths least most i₀ i =
-    (i ≤ 16) × (ranges (drop i (information kind)) (drop i numbers) (10 + i) ≡ ranges (information kind) numbers 10)
+    (i ≤ 16) × (ranges (drop i (placesOf kind)) (drop i numbers) (10 + i) ≡ ranges (placesOf kind) numbers 10)
 
 abbrev μ-loop : tie.MeasureT-loop
 μ-loop kind numbers widths least most i₀ i = 16 - i
@@ -89,7 +89,7 @@ loop-again c =
 returns-2 : tie.Need-returns-2 Inv-loop μ-loop
 returns-2 c =
     let s = c .before .before .before .before .before .before in
-    sym (ranges-end (information (s .args .kind)) (s .args .t2) _ (c .before .loop .i) (omega (arith, length-information (s .args .kind)))) ∙ c .before .loop .inv .1
+    sym (ranges-end (placesOf (s .args .kind)) (s .args .t2) _ (c .before .loop .i) (omega (arith, length-information (s .args .kind)))) ∙ c .before .loop .inv .1
 
 pub number-ranges-spec : {M : Type 1} → statement M
 number-ranges-spec =

@@ -8,7 +8,7 @@ use mir.Syntax.{w64}
 use borrow.Author.Needs.{needs}
 use Rattle.format.proofs.Information.{length-information}
 use Rattle.format.specs.Records.{markBits, stray}
-use Rattle.format.specs.Types.{places, information}
+use Rattle.format.specs.Types.{places, placesOf}
 use Rattle.records.proofs.Tests.{stray-next, stray-found, stray-end}
 use Rattle.records.proofs.stray.Statement.{statement}
 use Rattle.records.proofs.stray.Tie as tie
@@ -16,7 +16,7 @@ use Rattle.records.proofs.stray.Tie as tie
 abbrev Inv-loop : tie.InvT-loop
 Inv-loop kind minus numbers signs marks₀ i₀ marks i =
     (i ≤ 16)
-    × (stray (drop i (information kind)) (drop i numbers) (markBits (16 - i) marks) i ≡ stray (information kind) numbers (markBits places minus) 0)
+    × (stray (drop i (placesOf kind)) (drop i numbers) (markBits (16 - i) marks) i ≡ stray (placesOf kind) numbers (markBits places minus) 0)
 
 abbrev μ-loop : tie.MeasureT-loop
 μ-loop kind minus numbers signs marks₀ i₀ marks i = 16 - i
@@ -70,7 +70,7 @@ loop-again c =
 returns-2 : tie.Need-returns-2 Inv-loop μ-loop
 returns-2 c =
     let s = c .before .before .before .before in
-    sym (stray-end (information (s .args .kind)) (s .args .t2) _ _ (c .before .loop .i) (omega (arith, length-information (s .args .kind)))) ∙ c .before .loop .inv .1
+    sym (stray-end (placesOf (s .args .kind)) (s .args .t2) _ _ (c .before .loop .i) (omega (arith, length-information (s .args .kind)))) ∙ c .before .loop .inv .1
 
 pub stray-spec : {M : Type 1} → statement M
 stray-spec =

@@ -8,13 +8,13 @@ use mir.Syntax.{w64}
 use borrow.Author.Needs.{needs}
 use Rattle.format.proofs.Information.{length-information}
 use Rattle.format.specs.Records.{unused}
-use Rattle.format.specs.Types.{information}
+use Rattle.format.specs.Types.{placesOf}
 use Rattle.records.proofs.Tests.{unused-next, unused-found, unused-end}
 use Rattle.records.proofs.unused.Statement.{statement}
 use Rattle.records.proofs.unused.Tie as tie
 
 abbrev Inv-loop : tie.InvT-loop
-Inv-loop kind numbers widths i₀ i = (i ≤ 16) × (unused (drop i (information kind)) (drop i numbers) ≡ unused (information kind) numbers)
+Inv-loop kind numbers widths i₀ i = (i ≤ 16) × (unused (drop i (placesOf kind)) (drop i numbers) ≡ unused (placesOf kind) numbers)
 
 abbrev μ-loop : tie.MeasureT-loop
 μ-loop kind numbers widths i₀ i = 16 - i
@@ -68,7 +68,7 @@ loop-again c =
 returns-2 : tie.Need-returns-2 Inv-loop μ-loop
 returns-2 c =
     let s = c .before .before .before .before in
-    sym (unused-end (information (s .args .kind)) (s .args .t2) (c .before .loop .i) (omega (arith, length-information (s .args .kind)))) ∙ c .before .loop .inv .1
+    sym (unused-end (placesOf (s .args .kind)) (s .args .t2) (c .before .loop .i) (omega (arith, length-information (s .args .kind)))) ∙ c .before .loop .inv .1
 
 pub unused-spec : {M : Type 1} → statement M
 unused-spec =

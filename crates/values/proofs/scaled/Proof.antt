@@ -10,7 +10,7 @@ use mir.Facts.{toZ-ofZ}
 use mir.Syntax.{w64}
 use borrow.Author.Needs.{needs}
 use borrow.Author.Tests.{eq-eqb, ne-eqb}
-use Rattle.format.specs.declared.Answer.the-variants.{Done, Refused}
+use Rattle.format.specs.declared.Answer.the-variants.{Passed, Refused}
 use Rattle.format.specs.declared.Record.{Record}
 use Rattle.format.specs.declared.Refusal.{Refusal}
 use Rattle.format.specs.declared.Refusal.the-variants.{OutOfRange}
@@ -35,7 +35,7 @@ module _ (r : Record) (n : ℕ) where
   unfolding scaling _then_
   refused-record a e = rw e
 
-  module _ (e : recordTests r ≡ Done) where
+  module _ (e : recordTests r ≡ Passed) where
     refused-number : powerOf (r .kind) n ≡ 0 → NoValue (OutOfRange n) ≡ scaling r n
     unfolding scaling when _then_
     refused-number z = rw (e, eq-eqb _ _ z)
@@ -85,7 +85,7 @@ module _ (c : lts.Else1 (record-tests-reads.Asked, record-tests-reads.Learnt, po
   abbrev start : lts.Start (record-tests-reads.Asked, record-tests-reads.Learnt, power-of-reads.Asked, power-of-reads.Learnt, scale-reads.Asked, scale-reads.Learnt) reads.Pre reads.Post
   start = c .before .before .before .before .before .before
 
-  done : recordTests (start .args .r) ≡ Done
+  done : recordTests (start .args .r) ≡ Passed
   done = sym (c .before .before .before .before .record-tests .ensures) ∙ c .before .before .enum-told .given .1
 
   power-there : powerOf (start .args .r .kind) (start .args .field) ≡ 0 → ⊥

@@ -11,11 +11,11 @@ use borrow.Author.Needs.{needs}
 use Rattle.bits.proofs.Bytes.{length-unpack}
 use Rattle.bits.specs.Bits.{unpack}
 use Rattle.bits.proofs.put_field.Reads as put-field-reads
-use Rattle.format.specs.Types.{information}
+use Rattle.format.specs.Types.{placesOf}
 use Rattle.records.proofs.Table.{width-at, sign-at}
 use Rattle.records.proofs.rows.row_of.Reads as row-of-reads
 use Rattle.records.specs.Rows.{Describes}
-use Rattle.codec.proofs.Coding.{Gone, odd-seen, gone-start, room-here, width-here, code-asks, x-fits, gone-on, gone-same, gone-at, gone-all}
+use Rattle.codec.proofs.Coding.{WrittenSoFar, odd-seen, written-start, room-here, width-here, code-asks, x-fits, written-on, written-same, written-at, written-all}
 use Rattle.codec.proofs.Holding.{held-none}
 use Rattle.codec.specs.Coded.{afterHeld}
 use Rattle.codec.proofs.writing.code.Reads as code-reads
@@ -28,7 +28,7 @@ use Rattle.codec.proofs.writing.put_numbers.Tie as tie
 abbrev Inv-loop : tie.InvT-loop
 Inv-loop part₀ from kind minus numbers widths signs held₀ marks₀ i₀ part held marks i =
     (i ≤ 16) × (length part ≡ length part₀) × (held .count ≤ 64) × (held .word < 2 ^ held .count)
-    × Gone from kind minus numbers (unpack part₀) (afterHeld held (unpack part)) (held .at + held .count) marks i
+    × WrittenSoFar from kind minus numbers (unpack part₀) (afterHeld held (unpack part)) (held .at + held .count) marks i
 
 abbrev μ-loop : tie.MeasureT-loop
 μ-loop part₀ from kind minus numbers widths signs held₀ marks₀ i₀ part held marks i = 16 - i
@@ -42,13 +42,13 @@ loop-holds c =
     let a = s .args in
     let u = unpack (a .part .now) in
     let l : length (a .t4) ≡ 16 = search needs in
-    let g = gone-start (a .from) (a .kind) (a .minus) (a .t4) u (omega (arith, length-unpack (a .part .now))) l (s .pre .1) in
+    let g = written-start (a .from) (a .kind) (a .minus) (a .t4) u (omega (arith, length-unpack (a .part .now))) l (s .pre .1) in
     let there : a .from + 0 ≡ a .from = omega arith in (
       omega arith,
       search needs,
       omega arith,
       omega arith,
-      gone-at (a .from) (a .kind) (a .minus) (a .t4) u there (gone-same (a .from) (a .kind) (a .minus) (a .t4) u (held-none (a .from) u) g),
+      written-at (a .from) (a .kind) (a .minus) (a .t4) u there (written-same (a .from) (a .kind) (a .minus) (a .t4) u (held-none (a .from) u) g),
     )
 
 array-read-width : tie.Need-array-read-width Inv-loop μ-loop
@@ -83,10 +83,10 @@ module _ (k : lts.After-code-arg (row-of-reads.Asked, row-of-reads.Learnt, code-
   number-here : toZ w64 (ofZ w64 (getD (s .args .t4) (q .loop .i) (pos 0))) ≡ getD (s .args .t4) (q .loop .i) (pos 0)
   number-here = toZ-ofZ {w = w64} (record { sfits = k .code-arg .given })
 
-  gone : Gone (s .args .from) (s .args .kind) (s .args .minus) (s .args .t4) (unpack (s .args .part .now)) (afterHeld (q .loop .held) (unpack (q .loop .part))) (q .loop .held .at + q .loop .held .count) (q .loop .marks) (q .loop .i)
+  gone : WrittenSoFar (s .args .from) (s .args .kind) (s .args .minus) (s .args .t4) (unpack (s .args .part .now)) (afterHeld (q .loop .held) (unpack (q .loop .part))) (q .loop .held .at + q .loop .held .count) (q .loop .marks) (q .loop .i)
   gone = q .loop .inv .4
 
-  row : Describes (information (s .args .kind)) (q .before .before .before .row-of .result)
+  row : Describes (placesOf (s .args .kind)) (q .before .before .before .row-of .result)
   row = q .before .before .before .row-of .ensures
 
 code-requires : tie.Need-code-requires Inv-loop μ-loop
@@ -115,8 +115,8 @@ loop-again c =
     let k = f .before .before .before in
     let i = q k .loop .i in
     let e = f .hold .ensures in
-    let on = gone-on (s k .args .from) (s k .args .kind) (s k .args .minus) (s k .args .t4) _ i _ _ _ _ (gone k) (below k) (sixteen k) (width-at (row k) i) (sign-at (row k) i) (number-here k) (odd-seen (q k .loop .marks)) _ (f .before .before .code .ensures) _ (e .1) in
-    (omega arith, search needs, e .0 .1, e .0 .2, gone-at (s k .args .from) (s k .args .kind) (s k .args .minus) (s k .args .t4) _ (e .0 .0) on)
+    let on = written-on (s k .args .from) (s k .args .kind) (s k .args .minus) (s k .args .t4) _ i _ _ _ _ (gone k) (below k) (sixteen k) (width-at (row k) i) (sign-at (row k) i) (number-here k) (odd-seen (q k .loop .marks)) _ (f .before .before .code .ensures) _ (e .1) in
+    (omega arith, search needs, e .0 .1, e .0 .2, written-at (s k .args .from) (s k .args .kind) (s k .args .minus) (s k .args .t4) _ (e .0 .0) on)
 
 put-field-requires : tie.Need-put-field-requires Inv-loop μ-loop
 put-field-requires c κs =
@@ -133,7 +133,7 @@ returns c =
     let f = c .before .before in
     let q = f .before .before .before in
     let a = q .before .before .before .before .before .args in
-    f .put-field .ensures ∙ gone-all (a .from) (a .kind) (a .minus) (a .t4) (unpack (a .part .now)) (q .loop .i) (q .loop .inv .4) (omega arith)
+    f .put-field .ensures ∙ written-all (a .from) (a .kind) (a .minus) (a .t4) (unpack (a .part .now)) (q .loop .i) (q .loop .inv .4) (omega arith)
 
 pub put-numbers-spec : {M : Type 1} → statement M
 put-numbers-spec =

@@ -10,7 +10,7 @@ use Rattle.format.proofs.Agree.{length-unit}
 use Rattle.format.proofs.Information.{string-filled, raw-few}
 use Rattle.format.specs.Fields.{total}
 use Rattle.format.specs.Strings.{lengthOf, checkBits}
-use Rattle.format.specs.Types.{information}
+use Rattle.format.specs.Types.{placesOf}
 use Rattle.listing.proofs.length_of.Reads as length-of-reads
 use Rattle.records.proofs.rows.raw_count.Reads as raw-count-reads
 use Rattle.codec.proofs.Strings.{check-few, check-lt, service-lt, tests-say, fields-pass, string-put}
@@ -52,7 +52,7 @@ module _ (w : lts.After-raw-count (check-count-reads.Asked, check-count-reads.Le
   degree-is : w .before .before .check-count .result ≡ checkBits (s .args .r .kind)
   degree-is = w .before .before .check-count .ensures
 
-  pieces : (50 + total (information (s .args .r .kind)) + w .raw-count .result ≡ count) × (count + w .before .before .check-count .result ≡ lengthOf (s .args .r .kind))
+  pieces : (50 + total (placesOf (s .args .r .kind)) + w .raw-count .result ≡ count) × (count + w .before .before .check-count .result ≡ lengthOf (s .args .r .kind))
   pieces =
       let kind = s .args .r .kind in
       let z = string-filled kind in

@@ -2,40 +2,40 @@
 use mathlib.Core.Path.{refl}
 use borrow.Author.Tests.{ne-eqb}
 use Rattle.format.specs.Strings.{lengthOf, generatorOf}
-use Rattle.format.specs.Types.{information, rawCount}
+use Rattle.format.specs.Types.{placesOf, rawCount}
 use Rattle.records.proofs.rows.raw_count.Statement.{statement}
 use Rattle.records.proofs.rows.raw_count.Tie as tie
 
 returns : tie.Need-returns
-unfolding information rawCount lengthOf generatorOf
+unfolding placesOf rawCount lengthOf generatorOf
 returns c = rw (c .match .keys1) refl
 
 returns-2 : tie.Need-returns-2
-unfolding information rawCount lengthOf generatorOf
+unfolding placesOf rawCount lengthOf generatorOf
 returns-2 c = rw (c .match .keys2) refl
 
 returns-3 : tie.Need-returns-3
-unfolding information rawCount lengthOf generatorOf
+unfolding placesOf rawCount lengthOf generatorOf
 returns-3 c = rw (c .match .keys3) refl
 
 returns-4 : tie.Need-returns-4
-unfolding information rawCount lengthOf generatorOf
+unfolding placesOf rawCount lengthOf generatorOf
 returns-4 c = rw (c .match .keys4) refl
 
 returns-5 : tie.Need-returns-5
-unfolding information rawCount lengthOf generatorOf
+unfolding placesOf rawCount lengthOf generatorOf
 returns-5 c = rw (c .match .keys5) refl
 
 returns-6 : tie.Need-returns-6
-unfolding information rawCount lengthOf generatorOf
+unfolding placesOf rawCount lengthOf generatorOf
 returns-6 c = rw (c .match .keys6) refl
 
 returns-7 : tie.Need-returns-7
-unfolding information rawCount lengthOf generatorOf
+unfolding placesOf rawCount lengthOf generatorOf
 returns-7 c = rw (c .match .keys7) refl
 
 returns-8 : tie.Need-returns-8
-unfolding information rawCount lengthOf generatorOf
+unfolding placesOf rawCount lengthOf generatorOf
 returns-8 c =
     let r = c .match .rest in
     simp (ne-eqb _ _ (r .0 .0 .0 .0 .0 .0 .1), ne-eqb _ _ (r .0 .0 .0 .0 .0 .1), ne-eqb _ _ (r .0 .0 .0 .0 .1), ne-eqb _ _ (r .0 .0 .0 .1), ne-eqb _ _ (r .0 .0 .1), ne-eqb _ _ (r .0 .1), ne-eqb _ _ (r .1))

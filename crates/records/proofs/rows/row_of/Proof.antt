@@ -1,32 +1,32 @@
 -- `records::rows::row_of`: each row of the table is computed from the type's fields. Assumes nothing.
 use mathlib.Core.Path.{refl}
 use borrow.Author.Tests.{ne-eqb}
-use Rattle.format.specs.Types.{information}
+use Rattle.format.specs.Types.{placesOf}
 use Rattle.records.proofs.rows.row_of.Statement.{statement}
 use Rattle.records.proofs.rows.row_of.Tie as tie
 
 returns : tie.Need-returns
-unfolding information
+unfolding placesOf
 returns c = rw (c .match .keys1) (record { widths = refl; signs = refl; lows = refl; highs = refl; powers = refl })
 
 returns-2 : tie.Need-returns-2
-unfolding information
+unfolding placesOf
 returns-2 c = rw (c .match .keys2) (record { widths = refl; signs = refl; lows = refl; highs = refl; powers = refl })
 
 returns-3 : tie.Need-returns-3
-unfolding information
+unfolding placesOf
 returns-3 c = rw (c .match .keys3) (record { widths = refl; signs = refl; lows = refl; highs = refl; powers = refl })
 
 returns-4 : tie.Need-returns-4
-unfolding information
+unfolding placesOf
 returns-4 c = rw (c .match .keys4) (record { widths = refl; signs = refl; lows = refl; highs = refl; powers = refl })
 
 returns-5 : tie.Need-returns-5
-unfolding information
+unfolding placesOf
 returns-5 c = rw (c .match .keys5) (record { widths = refl; signs = refl; lows = refl; highs = refl; powers = refl })
 
 returns-6 : tie.Need-returns-6
-unfolding information
+unfolding placesOf
 returns-6 c =
     let r = c .match .rest in
     simp (ne-eqb _ _ (r .0 .0 .0 .0 .1), ne-eqb _ _ (r .0 .0 .0 .1), ne-eqb _ _ (r .0 .0 .1), ne-eqb _ _ (r .0 .1), ne-eqb _ _ (r .1))

@@ -9,7 +9,7 @@ use Rattle.bits.specs.Bits.{pack, put}
 use Rattle.format.specs.declared.Record.{Record}
 use Rattle.format.specs.Fields.{Field, isSigned, least, most}
 use Rattle.format.specs.Records.{markOf, rawBytes}
-use Rattle.format.specs.Types.{information, rawCount}
+use Rattle.format.specs.Types.{placesOf, rawCount}
 
 -- All types, the last first.
 abbrev pub below : ℕ → List ℕ
@@ -42,12 +42,12 @@ noRaw = replicate rawBytes 0
 
 -- Every field at its least: the signed ones are negative.
 abbrev pub lowest : ℕ → Record
-lowest t = recordOf t (map least (information t)) 0 noRaw
+lowest t = recordOf t (map least (placesOf t)) 0 noRaw
 
 -- Every field at its most, but the orbit 00 of type 20, and every raw bit 1.
 abbrev pub highest : ℕ → Record
 highest t =
-    recordOf t (cond (eqb t 20) (set (map most (information t)) 0 (pos 0)) (map most (information t))) 0
+    recordOf t (cond (eqb t 20) (set (map most (placesOf t)) 0 (pos 0)) (map most (placesOf t))) 0
     (put 0 (pack (replicate (rawCount t) true)) noRaw)
 
 -- Every signed field minus zero, every other at its least.
@@ -55,4 +55,4 @@ abbrev pub zeroOrLeast : Field → ℤ
 zeroOrLeast f = cond (isSigned f) (pos 0) (least f)
 
 abbrev pub minusZero : ℕ → Record
-minusZero t = recordOf t (map zeroOrLeast (information t)) (markOf (map isSigned (information t))) noRaw
+minusZero t = recordOf t (map zeroOrLeast (placesOf t)) (markOf (map isSigned (placesOf t))) noRaw

@@ -14,11 +14,11 @@ use Rattle.format.specs.Fields.{inRange}
 use Rattle.format.specs.Reading.{reading, placeTests, stringTests, recordAt}
 use Rattle.format.specs.Records.{fieldTests, ranges, unused, overfilled, stray, markBits, recordTests}
 use Rattle.format.specs.Strings.{stringBits, typeAt, lengthOf, generatorOf}
-use Rattle.format.specs.Types.{information, rawCount}
+use Rattle.format.specs.Types.{placesOf, rawCount}
 use Rattle.format.specs.Values.{dayCount}
 use Rattle.format.specs.Writing.{writing, writeTests}
 use Rattle.format.specs.Listing.{scan, starts}
-use Rattle.examples.specs.Starred.{Example, checkIs, signedIs, listingIs, testIs, readingIs, writingIs, daysIs, listingOf, readingOf, writingOf, onlyOne, Says, rows, sameInt, holds, allHold, Each}
+use Rattle.witnesses.specs.Starred.{Example, checkIs, signedIs, listingIs, testIs, readingIs, writingIs, daysIs, listingOf, readingOf, writingOf, onlyOne, Says, rows, sameInt, holds, allHold, Each}
 
 same-int : (x y : ℤ) → sameInt x y ≡ true → x ≡ y
 same-int (pos a) (pos b) e = ap pos (eqb-true a b e)
@@ -53,7 +53,7 @@ all-sound [] t = tt
 all-sound (e ∷ es) t = (sound e (and-eq-true-iff (holds e) (allHold es) .0 t .0), all-sound es (and-eq-true-iff (holds e) (allHold es) .0 t .1))
 
 test : allHold rows ≡ true
-unfolding check remainder listAnswer recorded starts scan fieldTests ranges inRange information when _then_ reading placeTests stringTests recordAt stringBits cut typeAt
+unfolding check remainder listAnswer recorded starts scan fieldTests ranges inRange placesOf when _then_ reading placeTests stringTests recordAt stringBits cut typeAt
     writing writeTests recordTests dayCount unused overfilled stray markBits rawCount lengthOf generatorOf
 test = refl
 

@@ -18,8 +18,8 @@ use Rattle.format.proofs.Agree.{standing-stands}
 use Rattle.format.proofs.Damage.{damaged-none}
 use Rattle.format.proofs.Resync.{resync}
 use Rattle.format.proofs.Sure.{sure, sound, apart}
-use Rattle.examples.specs.Recordings.{across, farthest, farthestFirst, undamaged, damaged}
-use Rattle.examples.proofs.Tests.{walk, walked, widest-burst}
+use Rattle.witnesses.specs.Recordings.{across, farthest, farthestFirst, undamaged, damaged}
+use Rattle.witnesses.proofs.Tests.{walk, walked, widest-burst}
 
 -- ---- `across`: a listed string lies across the first true boundary
 pub across-passes : Passes across 953

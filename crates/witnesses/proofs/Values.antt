@@ -10,18 +10,18 @@ use Rattle.format.specs.declared.Value.the-variants.{Number, Refused as NoValue
 use Rattle.format.specs.Answers.{valueCode, when, _then_}
 use Rattle.format.specs.Fields.{inRange}
 use Rattle.format.specs.Records.{ranges, fieldTests, unused, overfilled, stray, markBits, recordTests}
-use Rattle.format.specs.Types.{information, rawCount}
+use Rattle.format.specs.Types.{placesOf, rawCount}
 use Rattle.format.specs.Strings.{lengthOf, generatorOf}
 use Rattle.format.specs.Values.{powerOf, countOf, digitBits, scaledBits, scaling, accuracy}
-use Rattle.examples.specs.Values.{Pattern, patterns, position}
+use Rattle.witnesses.specs.Values.{Pattern, patterns, position}
 
 pub given : map (λ (p : Pattern). scaling (p .content) (p .field)) patterns ≡ map (λ (p : Pattern). Number (ofBits binary64 (p .bits))) patterns
-unfolding scaling powerOf countOf scaledBits digitBits size ofBits when _then_ recordTests fieldTests ranges inRange unused overfilled stray markBits information rawCount
+unfolding scaling powerOf countOf scaledBits digitBits size ofBits when _then_ recordTests fieldTests ranges inRange unused overfilled stray markBits placesOf rawCount
     lengthOf generatorOf
 given = refl
 
 pub same-bits : map (λ (p : Pattern). toBits binary64 (valueCode (scaling (p .content) (p .field)) .2)) patterns ≡ map (λ (p : Pattern). p .bits) patterns
-unfolding toBits scaling powerOf countOf scaledBits digitBits size ofBits when _then_ recordTests fieldTests ranges inRange unused overfilled stray markBits information
+unfolding toBits scaling powerOf countOf scaledBits digitBits size ofBits when _then_ recordTests fieldTests ranges inRange unused overfilled stray markBits placesOf
     rawCount lengthOf generatorOf
 same-bits = refl
 
@@ -30,7 +30,7 @@ abbrev powerless : List ℕ
 powerless = 0 ∷ 1 ∷ 9 ∷ 16 ∷ 17 ∷ 26 ∷ []
 
 pub no-power : map (scaling (position (pos 1) 0)) powerless ≡ map (λ n. NoValue (OutOfRange n)) powerless
-unfolding scaling powerOf countOf when _then_ recordTests fieldTests ranges inRange unused overfilled stray markBits information rawCount lengthOf generatorOf
+unfolding scaling powerOf countOf when _then_ recordTests fieldTests ranges inRange unused overfilled stray markBits placesOf rawCount lengthOf generatorOf
 no-power = refl
 
 -- The ends of the table, the factor that is undefined, and the first on each side that is refused.

@@ -4,16 +4,16 @@ use Prim.Native.Nat.{ℕ}
 use lib.IntN.{ℤ, pos, negsuc}
 use lib.ListN.{set}
 use Rattle.format.specs.declared.Record.{Record}
-use Rattle.format.specs.Types.{information}
-use Rattle.examples.specs.Writable.{recordOf, noRaw, zeroOrLeast}
+use Rattle.format.specs.Types.{placesOf}
+use Rattle.witnesses.specs.Writable.{recordOf, noRaw, zeroOrLeast}
 
 -- A record of type 11 by its x, field 10, of 2 ^ -20 kilometres; and one of type 10 by its tau_c, field 24, of 2 ^ -31 seconds.
 -- The other unsigned fields are at their least, the signed ones 0.
 abbrev pub position : ℤ → ℕ → Record
-position x minus = recordOf 11 (set (map zeroOrLeast (information 11)) 0 x) minus noRaw
+position x minus = recordOf 11 (set (map zeroOrLeast (placesOf 11)) 0 x) minus noRaw
 
 abbrev pub shift : ℤ → ℕ → Record
-shift s minus = recordOf 10 (set (map zeroOrLeast (information 10)) 14 s) minus noRaw
+shift s minus = recordOf 10 (set (map zeroOrLeast (placesOf 10)) 14 s) minus noRaw
 
 -- A record, the number of a field, and the bits of its value.
 pub record Pattern : Type 0 where
