@@ -93,7 +93,8 @@ bit-not x k h l =
 getD-bits : (n x i : ℕ) → i < n → getD (bits n x) i false ≡ odd (x / 2 ^ (n - 1 - i))
 getD-bits zero x i h = absurd (omega arith)
 getD-bits (suc n) x zero h = let e : n ≡ suc n - 1 - 0 = omega arith in ap (λ (k : ℕ). odd (x / 2 ^ k)) e
-getD-bits (suc n) x (suc i) h = let e : n - 1 - i ≡ suc n - 1 - suc i = omega arith in getD-bits n x i (omega arith) ∙ ap (λ (k : ℕ). odd (x / 2 ^ k)) e
+getD-bits (suc n) x (suc i) h =
+    let e : n - 1 - i ≡ suc n - 1 - suc i = omega arith in getD-bits n x i (omega arith) ∙ ap (λ (k : ℕ). odd (x / 2 ^ k)) e
 
 -- ---- the bits of a word by their places
 bits-and : (n a b j : ℕ) → getD (bits n (bitAnd a b)) j false ≡ getD (bits n a) j false && getD (bits n b) j false
@@ -125,7 +126,8 @@ at-shl x i j =
           ∙ ap (λ (k : ℕ). odd (x / 2 ^ k)) e ∙ sym (at-is x (j + i) l)
       | no l ↦
           elim (decLt j 64) [
-            | yes m ↦ at-is (x * 2 ^ i % 2 ^ 64) j m ∙ below-shl x i (63 - j) (omega arith) (omega arith) ∙ sym (at-end x (j + i) (omega arith))
+            | yes m ↦ at-is (x * 2 ^ i % 2 ^ 64) j m ∙ below-shl x i (63 - j) (omega arith) (omega arith)
+                ∙ sym (at-end x (j + i) (omega arith))
             | no m ↦ at-end (x * 2 ^ i % 2 ^ 64) j (omega arith) ∙ sym (at-end x (j + i) (omega arith))
           ]
     ]
