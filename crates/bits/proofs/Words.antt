@@ -13,6 +13,7 @@ use Rattle.bits.specs.Bits.{bits, odd, isOne, bitAt}
 use Rattle.bits.proofs.Numbers.{length-bits}
 
 -- ---- one bit of a number
+-- `a & b`
 odd-and : (a b : ℕ) → odd (bitAnd a b) ≡ odd a && odd b
 odd-and a b = ap isOne low ∙ both (a % 2) (b % 2) (omega arith) (omega arith)
   where
@@ -102,21 +103,26 @@ bits-and zero a b j = refl
 bits-and (suc n) a b zero = bit-and a b n
 bits-and (suc n) a b (suc j) = bits-and n a b j
 
+-- `a & b`
 pub at-and : (a b j : ℕ) → bitAt (bitAnd a b) j ≡ bitAt a j && bitAt b j
 unfolding bitAt
 at-and = bits-and 64
 
+-- the bit j of a word, counted from its high end
 at-is : (x j : ℕ) → j < 64 → bitAt x j ≡ odd (x / 2 ^ (63 - j))
 unfolding bitAt
 at-is = getD-bits 64
 
+-- past the end of a word there is no one
 pub at-end : (x j : ℕ) → 64 ≤ j → bitAt x j ≡ false
 unfolding bitAt
 at-end x j h = List·getD-eq-default (bits 64 x) false {n = j} (omega (arith, length-bits 64 x))
 
+-- `!x`
 pub at-not : (x j : ℕ) → x < 2 ^ 64 → j < 64 → bitAt (2 ^ 64 - 1 - x) j ≡ not (bitAt x j)
 at-not x j h l = at-is (2 ^ 64 - 1 - x) j l ∙ bit-not x (63 - j) h (omega arith) ∙ ap not (sym (at-is x j l))
 
+-- `x << i`
 pub at-shl : (x i j : ℕ) → bitAt (x * 2 ^ i % 2 ^ 64) j ≡ bitAt x (j + i)
 at-shl x i j =
     elim (decLt (j + i) 64) [
@@ -151,5 +157,6 @@ module _ (g : ℕ) (p : 0 < g) (h : g < 2 ^ 64) where
       let s : g < 2 ^ k = omega (arith, top .3, pow-mono {i = suc (top .0)} {j = k} (omega (arith, top .1))) in
       at-is g i (omega (arith, top .1)) ∙ ap odd (div-eq-of-lt s)
 
+-- a word that is 0 has no one
 pub no-ones : (g i : ℕ) → g ≡ 0 → i < 64 → bitAt g i ≡ false
 no-ones g i e l = ap (λ (x : ℕ). bitAt x i) e ∙ at-is 0 i l ∙ ap odd (zero-div (2 ^ (63 - i)))
