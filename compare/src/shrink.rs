@@ -1,166 +1,109 @@
 //! Makes a case on which the implementations differ smaller, as long as they still differ.
 
-use crate::case::Case;
+use crate::calls::Call;
 use crate::make::set;
 use l1oc::Record;
 
 /// No more tries than this.
 const TRIES: usize = 4000;
 
-struct Shrink {
-    case: Case,
+/// A case that is made smaller. A call names the parts of its input by the methods.
+pub struct Shrink<C> {
+    call: C,
     tries: usize,
 }
 
 /// A smaller case on which the implementations still differ.
-pub fn shrink(case: Case) -> Case {
-    let mut shrink = Shrink { case, tries: TRIES };
-    shrink.cut();
-    shrink.numbers();
-    shrink.zero();
-    shrink.record();
-    shrink.case
+pub fn shrink<C: Call>(call: C) -> C {
+    let mut shrink = Shrink { call, tries: TRIES };
+    C::shrink(&mut shrink);
+    shrink.call
 }
 
-impl Shrink {
+/// A recording, its bit count, and a place in it if the call has one.
+type Recording<'a> = (&'a mut Vec<u8>, &'a mut usize, Option<&'a mut usize>);
+
+impl<C: Call> Shrink<C> {
     /// Keeps the changed case if the implementations still differ on it.
-    fn keep(&mut self, change: impl Fn(&mut Case)) -> bool {
+    pub fn keep(&mut self, change: impl Fn(&mut C)) -> bool {
         if self.tries == 0 {
             return false;
         }
         self.tries -= 1;
-        let mut case = self.case.clone();
-        change(&mut case);
-        let differs = case.differs();
+        let mut call = self.call.clone();
+        change(&mut call);
+        let differs = call.differs();
         if differs {
-            self.case = case;
+            self.call = call;
         }
         differs
     }
 
-    /// Cuts bytes off the end and the front, many at first, then fewer.
-    fn cut(&mut self) {
-        let mut size = length(&self.case);
-        while size > 0 {
-            while length(&self.case) >= size && self.keep(|case| cut_end(case, size)) {}
-            while length(&self.case) >= size && self.keep(|case| cut_front(case, size)) {}
-            size /= 2;
-        }
-    }
-
-    /// Lowers the count, the place and the room.
-    fn numbers(&mut self) {
-        let lower: [fn(&mut Case, usize); 3] = [lower_count, lower_place, lower_room];
+    /// Lowers a number, by much at first, then by less.
+    pub fn number(&mut self, part: impl Fn(&mut C) -> &mut usize) {
         for step in (0..20).rev().map(|power| 1 << power) {
-            for change in lower {
-                let mut tries = 3;
-                while tries > 0 && self.keep(|case| change(case, step)) {
-                    tries -= 1;
-                }
+            let lower = |call: &mut C| *part(call) = part(call).saturating_sub(step);
+            let mut tries = 3;
+            while tries > 0 && self.keep(lower) {
+                tries -= 1;
             }
         }
     }
 
-    /// Zeroes bytes, long stretches at first, then shorter ones.
-    fn zero(&mut self) {
-        let mut size = length(&self.case);
+    /// Cuts bytes off a recording, lowers its bit count and the place, and zeroes bytes.
+    pub fn recording(&mut self, part: fn(&mut C) -> Recording<'_>) {
+        let length = |shrink: &mut Self| part(&mut shrink.call).0.len();
+        // Many bytes at first, then fewer.
+        let mut size = length(self);
         while size > 0 {
-            for from in (0..length(&self.case)).step_by(size) {
-                self.keep(|case| zero(case, from, size));
+            while length(self) >= size && self.keep(|call| cut_end(part(call), size)) {}
+            while length(self) >= size && self.keep(|call| cut_front(part(call), size)) {}
+            size /= 2;
+        }
+        self.number(|call| part(call).1);
+        if part(&mut self.call).2.is_some() {
+            self.number(|call| part(call).2.expect("as before"));
+        }
+        size = length(self);
+        while size > 0 {
+            for from in (0..length(self)).step_by(size) {
+                self.keep(|call| zero(part(call).0, from, size));
             }
             size /= 2;
         }
     }
 
-    /// Sets the record's places to zero, the satellite to 1.
-    fn record(&mut self) {
+    /// Sets the places of a record to zero, the satellite to 1.
+    pub fn record(&mut self, part: fn(&mut C) -> &mut Record) {
         for field in 2..26 {
-            self.keep(|case| change(case, |record| set(record, field, (field == 2).into())));
+            self.keep(|call| set(part(call), field, (field == 2).into()));
         }
         for bit in 0..16 {
-            self.keep(|case| change(case, |record| record.minus &= !(1 << bit)));
+            self.keep(|call| part(call).minus &= !(1 << bit));
         }
         for place in 0..38 {
-            self.keep(|case| change(case, |record| record.raw[place] = 0));
+            self.keep(|call| part(call).raw[place] = 0);
         }
     }
 }
 
-/// The recording, its count and the place of a case.
-fn lent(case: &mut Case) -> Option<(&mut Vec<u8>, &mut usize, Option<&mut usize>)> {
-    match case {
-        Case::List { bytes, count, .. } => Some((bytes, count, None)),
-        Case::Read {
-            bytes,
-            count,
-            place,
-        } => Some((bytes, count, Some(place))),
-        Case::Write {
-            bytes,
-            count,
-            place,
-            ..
-        } => Some((bytes, count, Some(place))),
-        _ => None,
+fn cut_end((bytes, count, _): Recording<'_>, size: usize) {
+    let fitted = *count <= 8 * bytes.len();
+    bytes.truncate(bytes.len() - size);
+    if fitted {
+        *count = (*count).min(8 * bytes.len());
     }
 }
 
-fn length(case: &Case) -> usize {
-    match case {
-        Case::List { bytes, .. } | Case::Read { bytes, .. } | Case::Write { bytes, .. } => {
-            bytes.len()
-        }
-        _ => 0,
+fn cut_front((bytes, count, place): Recording<'_>, size: usize) {
+    bytes.drain(..size);
+    *count = count.saturating_sub(8 * size);
+    if let Some(place) = place {
+        *place = place.saturating_sub(8 * size);
     }
 }
 
-fn cut_end(case: &mut Case, size: usize) {
-    if let Some((bytes, count, _)) = lent(case) {
-        let fitted = *count <= 8 * bytes.len();
-        bytes.truncate(bytes.len() - size);
-        if fitted {
-            *count = (*count).min(8 * bytes.len());
-        }
-    }
-}
-
-fn cut_front(case: &mut Case, size: usize) {
-    if let Some((bytes, count, place)) = lent(case) {
-        bytes.drain(..size);
-        *count = count.saturating_sub(8 * size);
-        if let Some(place) = place {
-            *place = place.saturating_sub(8 * size);
-        }
-    }
-}
-
-fn lower_count(case: &mut Case, step: usize) {
-    if let Some((_, count, _)) = lent(case) {
-        *count = count.saturating_sub(step);
-    }
-}
-
-fn lower_place(case: &mut Case, step: usize) {
-    if let Some((_, _, Some(place))) = lent(case) {
-        *place = place.saturating_sub(step);
-    }
-}
-
-fn lower_room(case: &mut Case, step: usize) {
-    if let Case::List { room, .. } = case {
-        *room = room.saturating_sub(step);
-    }
-}
-
-fn zero(case: &mut Case, from: usize, size: usize) {
-    if let Some((bytes, _, _)) = lent(case) {
-        let end = bytes.len().min(from + size);
-        bytes[from..end].fill(0);
-    }
-}
-
-fn change(case: &mut Case, change: impl Fn(&mut Record)) {
-    if let Case::Write { record, .. } | Case::Scaled { record, .. } = case {
-        change(record);
-    }
+fn zero(bytes: &mut [u8], from: usize, size: usize) {
+    let end = bytes.len().min(from + size);
+    bytes[from..end].fill(0);
 }

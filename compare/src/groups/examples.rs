@@ -1,6 +1,10 @@
 //! The worked examples of document 01, each on both implementations.
 
-use crate::case::{Case, Outcome, Side};
+use crate::calls::day_count::DayCount;
+use crate::calls::list::List;
+use crate::calls::read::Read;
+use crate::calls::write::Write;
+use crate::calls::{Call, Outcome, Side};
 use crate::make;
 use crate::plain::{self, check, LIMIT};
 use crate::run::Run;
@@ -15,7 +19,7 @@ pub fn run(run: &mut Run) {
     listing(run);
 }
 
-fn is(number: u64, value: u64) -> impl Fn(&Outcome) -> bool {
+fn is<C: Call>(number: u64, value: u64) -> impl Fn(&Outcome<C>) -> bool {
     move |outcome| outcome.answer == Answer { number, value }
 }
 
@@ -44,8 +48,8 @@ fn empty(kind: u8) -> Record {
 }
 
 /// Writes into zeros; the recording then has just the string's bits, filled up.
-fn write(record: Record) -> Case {
-    Case::Write {
+fn write(record: Record) -> Write {
+    Write {
         bytes: vec![0; 47],
         count: plain::length(record.kind),
         place: 0,
@@ -53,8 +57,8 @@ fn write(record: Record) -> Case {
     }
 }
 
-fn read(text: &str) -> Case {
-    Case::Read {
+fn read(text: &str) -> Read {
+    Read {
         bytes: make::pack(text),
         count: text.len(),
         place: 0,
@@ -113,7 +117,7 @@ fn signed(run: &mut Run) {
         record.numbers[place] = number;
         record.minus = minus;
         run.expect("signed", read(&make::close(&before, kind)), |outcome| {
-            outcome.answer.number == 0 && outcome.record == record
+            outcome.answer.number == 0 && outcome.given == record
         });
         run.expect("signed", write(record), |outcome| {
             plain::bits(&outcome.recording(), first, first + bits.len()) == bits
@@ -146,11 +150,11 @@ fn ranges(run: &mut Run) {
 
 /// Examples 10 to 13.
 fn counts(run: &mut Run) {
-    let list = |bytes: Vec<u8>, count, room| Case::List { bytes, count, room };
+    let list = |bytes: Vec<u8>, count, room| List { bytes, count, room };
     run.expect("example 10", list(vec![], 0, 0), is(0, 0));
     run.expect("example 10", read(""), is(5, 0));
-    run.expect("example 11", Case::DayCount { n4: 1, nt: 1 }, is(0, 0));
-    run.expect("example 11", Case::DayCount { n4: 2, nt: 1 }, is(0, 1461));
+    run.expect("example 11", DayCount { n4: 1, nt: 1 }, is(0, 0));
+    run.expect("example 11", DayCount { n4: 2, nt: 1 }, is(0, 1461));
     let before = plain::text_before_check(&empty(0));
     let string = make::close(&before, 0);
     run.expect("example 12", read(&string), is(0, 0));
@@ -179,7 +183,7 @@ fn listing(run: &mut Run) {
         let mut bytes = vec![0; 79];
         for ((place, ..), record) in lines.into_iter().zip(records) {
             let count = 632;
-            let case = Case::Write {
+            let case = Write {
                 bytes,
                 count,
                 place,
@@ -187,20 +191,20 @@ fn listing(run: &mut Run) {
             };
             bytes = case.run(side).recording();
         }
-        let list = Case::List {
+        let list = List {
             bytes: bytes.clone(),
             count: 632,
             room: 3,
         };
         run.expect("list", list, |outcome| outcome.starts() == [0, 250, 375]);
         for ((place, ..), record) in lines.into_iter().zip(records) {
-            let case = Case::Read {
+            let case = Read {
                 bytes: bytes.clone(),
                 count: 632,
                 place,
             };
             run.expect("list", case, |outcome| {
-                outcome.answer.number == 0 && outcome.record == record
+                outcome.answer.number == 0 && outcome.given == record
             });
         }
     }

@@ -18,7 +18,7 @@ fn there_and_back(run: &mut Run, record: &Record, place: usize) {
     );
     let bytes = written.recording();
     let back = run.read(&bytes, count, place);
-    run.require(back.answer.number == 0 && back.record == *record, || {
+    run.require(back.answer.number == 0 && back.given == *record, || {
         println!("a record reads back otherwise: {record:?}");
     });
     run.list(&bytes, count, 4);
@@ -120,7 +120,7 @@ fn read_and_list(run: &mut Run, string: &str) {
     if reading.answer.number == 0 {
         // A string that reads is written back to the same bits.
         let other = run.random.bytes(bytes.len());
-        let written = run.write(&other, text.len(), lead, &reading.record);
+        let written = run.write(&other, text.len(), lead, &reading.given);
         let back = plain::bits(&written.recording(), lead, text.len());
         run.require(back == string, || {
             println!("a string is written back otherwise: {string}");

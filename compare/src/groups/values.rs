@@ -1,6 +1,7 @@
 //! Scaled values, accuracy factors and day counts.
 
-use crate::case::Case;
+use crate::calls::accuracy::Accuracy;
+use crate::calls::day_count::DayCount;
 use crate::make::{self, WITH_FIELDS};
 use crate::plain::table;
 use crate::run::Run;
@@ -54,7 +55,7 @@ const EXTREMES: [i64; 10] = [
 
 pub fn accuracy(run: &mut Run) {
     for factor in (-300..=300).chain(EXTREMES) {
-        run.compare(Case::Accuracy { factor });
+        run.compare(Accuracy { factor });
     }
 }
 
@@ -62,7 +63,7 @@ pub fn day_count(run: &mut Run) {
     let n4s: Vec<i64> = (-1..=33).chain(EXTREMES).collect();
     for n4 in &n4s {
         for nt in (-2..=1464).chain([2047, 2048, 65535]).chain(EXTREMES) {
-            run.compare(Case::DayCount { n4: *n4, nt });
+            run.compare(DayCount { n4: *n4, nt });
         }
     }
 }

@@ -1,0 +1,94 @@
+//! The functions that are compared. Each has a file with its input, how it runs on both sides, and
+//! how a case on which they differ is made smaller and printed; and its line here.
+
+pub mod accuracy;
+pub mod day_count;
+pub mod list;
+pub mod read;
+pub mod scaled;
+pub mod write;
+
+use crate::lent::Memory;
+use crate::shrink::Shrink;
+use l1oc::Answer;
+use std::fmt::Debug;
+
+/// A call of a function: its input.
+pub trait Call: Clone {
+    const NAME: &'static str;
+
+    /// The numbers that the function answers: 0 and its tests of document 01.
+    const NUMBERS: &'static [u64];
+
+    /// The memory that is lent to it.
+    type Lent: Memory;
+
+    /// What it gives beside its answer.
+    type Given: PartialEq + Debug;
+
+    fn lend(&self) -> Self::Lent;
+
+    /// Runs the second implementation.
+    fn plain(&self, lent: &mut Self::Lent) -> (Answer, Self::Given);
+
+    /// Runs the proved one, behind its C interface. A recording is lent mutably, so that a change
+    /// of it is seen and not assumed away.
+    fn proved(&self, lent: &mut Self::Lent) -> (Answer, Self::Given);
+
+    /// Names the parts of the input that are made smaller.
+    fn shrink(_: &mut Shrink<Self>) {}
+
+    /// The input as it is printed.
+    fn input(&self) -> String;
+
+    fn run(&self, side: Side) -> Outcome<Self> {
+        let mut lent = self.lend();
+        let (answer, given) = match side {
+            Side::Plain => self.plain(&mut lent),
+            Side::Proved => self.proved(&mut lent),
+        };
+        Outcome {
+            answer,
+            given,
+            lent,
+        }
+    }
+
+    /// Whether the two sides differ on this input.
+    fn differs(&self) -> bool {
+        self.run(Side::Plain) != self.run(Side::Proved)
+    }
+}
+
+/// Which implementation runs.
+#[derive(Clone, Copy)]
+pub enum Side {
+    Plain,
+    Proved,
+}
+
+/// What a call answers and gives, and the lent memory afterwards with its guards.
+pub struct Outcome<C: Call> {
+    pub answer: Answer,
+    pub given: C::Given,
+    pub lent: C::Lent,
+}
+
+impl<C: Call> PartialEq for Outcome<C> {
+    fn eq(&self, other: &Self) -> bool {
+        self.answer == other.answer && self.given == other.given && self.lent == other.lent
+    }
+}
+
+/// Number 0 beside the value, or the refusal.
+fn answer(result: Result<u64, Answer>) -> Answer {
+    match result {
+        Ok(value) => Answer { number: 0, value },
+        Err(refusal) => refusal,
+    }
+}
+
+fn hex(bytes: &[u8]) -> String {
+    let digits: Vec<String> = bytes.iter().map(|byte| format!("{byte:02x}")).collect();
+    format!("[{}] ({} bytes)", digits.concat(), bytes.len())
+}

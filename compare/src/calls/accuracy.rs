@@ -1,0 +1,31 @@
+//! The accuracy factor.
+
+use super::{answer, Call};
+use crate::plain::value;
+use l1oc::Answer;
+
+#[derive(Clone)]
+pub struct Accuracy {
+    pub factor: i64,
+}
+
+impl Call for Accuracy {
+    const NAME: &'static str = "accuracy";
+    const NUMBERS: &'static [u64] = &[0, 7];
+    type Lent = ();
+    type Given = ();
+
+    fn lend(&self) {}
+
+    fn plain(&self, _: &mut ()) -> (Answer, ()) {
+        (answer(value::accuracy(self.factor)), ())
+    }
+
+    fn proved(&self, _: &mut ()) -> (Answer, ()) {
+        (l1oc::accuracy(self.factor), ())
+    }
+
+    fn input(&self) -> String {
+        format!("factor {}", self.factor)
+    }
+}

@@ -1,0 +1,32 @@
+//! The day count.
+
+use super::{answer, Call};
+use crate::plain::value;
+use l1oc::Answer;
+
+#[derive(Clone)]
+pub struct DayCount {
+    pub n4: i64,
+    pub nt: i64,
+}
+
+impl Call for DayCount {
+    const NAME: &'static str = "day count";
+    const NUMBERS: &'static [u64] = &[0, 7];
+    type Lent = ();
+    type Given = ();
+
+    fn lend(&self) {}
+
+    fn plain(&self, _: &mut ()) -> (Answer, ()) {
+        (answer(value::day_count(self.n4, self.nt)), ())
+    }
+
+    fn proved(&self, _: &mut ()) -> (Answer, ()) {
+        (l1oc::day_count(self.n4, self.nt), ())
+    }
+
+    fn input(&self) -> String {
+        format!("n4 {}, nt {}", self.n4, self.nt)
+    }
+}

@@ -1,0 +1,67 @@
+//! Listing.
+
+use super::{answer, hex, Call, Outcome};
+use crate::lent::Lent;
+use crate::plain;
+use crate::run::Run;
+use crate::shrink::Shrink;
+use l1oc::{c, Answer};
+
+#[derive(Clone)]
+pub struct List {
+    pub bytes: Vec<u8>,
+    pub count: usize,
+    pub room: usize,
+}
+
+impl Call for List {
+    const NAME: &'static str = "listing";
+    const NUMBERS: &'static [u64] = &[0, 1, 2, 9];
+    type Lent = (Lent<u8>, Lent<u32>);
+    type Given = ();
+
+    fn lend(&self) -> Self::Lent {
+        (Lent::bytes(&self.bytes), Lent::list(self.room))
+    }
+
+    fn plain(&self, (bytes, list): &mut Self::Lent) -> (Answer, ()) {
+        let starts = plain::list(bytes, self.count, list);
+        (answer(starts.map(|starts| starts as u64)), ())
+    }
+
+    fn proved(&self, (bytes, list): &mut Self::Lent) -> (Answer, ()) {
+        let (lent, length) = (bytes.as_mut_ptr().cast_const(), bytes.len());
+        // SAFETY: both slices are lent whole, with their lengths.
+        let answer =
+            unsafe { c::l1oc_list(lent, length, self.count, list.as_mut_ptr(), list.len()) };
+        (answer, ())
+    }
+
+    fn shrink(shrink: &mut Shrink<Self>) {
+        shrink.recording(|call| (&mut call.bytes, &mut call.count, None));
+        shrink.number(|call| &mut call.room);
+    }
+
+    fn input(&self) -> String {
+        let bytes = hex(&self.bytes);
+        format!("count {}, room {}, bytes {bytes}", self.count, self.room)
+    }
+}
+
+impl Outcome<List> {
+    /// The starts that listing gives.
+    pub fn starts(&self) -> &[u32] {
+        let starts = match self.answer.number {
+            0 => self.lent.1.get(..self.answer.value as usize),
+            _ => None,
+        };
+        starts.unwrap_or_default()
+    }
+}
+
+impl Run {
+    pub fn list(&mut self, bytes: &[u8], count: usize, room: usize) -> Outcome<List> {
+        let bytes = bytes.to_vec();
+        self.compare(List { bytes, count, room })
+    }
+}

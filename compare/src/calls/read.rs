@@ -1,0 +1,63 @@
+//! Reading.
+
+use super::{answer, hex, Call, Outcome};
+use crate::lent::Lent;
+use crate::plain;
+use crate::run::Run;
+use crate::shrink::Shrink;
+use l1oc::{c, Answer, Reading, Record};
+
+#[derive(Clone)]
+pub struct Read {
+    pub bytes: Vec<u8>,
+    pub count: usize,
+    pub place: usize,
+}
+
+impl Call for Read {
+    const NAME: &'static str = "reading";
+    const NUMBERS: &'static [u64] = &[0, 1, 2, 3, 4, 5, 6, 7, 8];
+    type Lent = Lent<u8>;
+    type Given = Record;
+
+    fn lend(&self) -> Lent<u8> {
+        Lent::bytes(&self.bytes)
+    }
+
+    fn plain(&self, bytes: &mut Lent<u8>) -> (Answer, Record) {
+        let record = plain::read(bytes, self.count, self.place);
+        (answer(record.map(|_| 0)), record.unwrap_or(Record::BLANK))
+    }
+
+    fn proved(&self, bytes: &mut Lent<u8>) -> (Answer, Record) {
+        let (lent, length) = (bytes.as_mut_ptr().cast_const(), bytes.len());
+        // SAFETY: the slice is lent whole, with its length.
+        let reading = unsafe { c::l1oc_read(lent, length, self.count, self.place) };
+        let Reading {
+            number,
+            value,
+            content,
+        } = reading;
+        (Answer { number, value }, content)
+    }
+
+    fn shrink(shrink: &mut Shrink<Self>) {
+        shrink.recording(|call| (&mut call.bytes, &mut call.count, Some(&mut call.place)));
+    }
+
+    fn input(&self) -> String {
+        let bytes = hex(&self.bytes);
+        format!("count {}, place {}, bytes {bytes}", self.count, self.place)
+    }
+}
+
+impl Run {
+    pub fn read(&mut self, bytes: &[u8], count: usize, place: usize) -> Outcome<Read> {
+        let bytes = bytes.to_vec();
+        self.compare(Read {
+            bytes,
+            count,
+            place,
+        })
+    }
+}

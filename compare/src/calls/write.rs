@@ -1,0 +1,74 @@
+//! Writing.
+
+use super::{answer, hex, Call, Outcome};
+use crate::lent::Lent;
+use crate::plain;
+use crate::run::Run;
+use crate::shrink::Shrink;
+use l1oc::{Answer, Record};
+
+#[derive(Clone)]
+pub struct Write {
+    pub bytes: Vec<u8>,
+    pub count: usize,
+    pub place: usize,
+    pub record: Record,
+}
+
+impl Call for Write {
+    const NAME: &'static str = "writing";
+    const NUMBERS: &'static [u64] = &[0, 1, 2, 3, 5, 7, 8, 10, 11];
+    type Lent = Lent<u8>;
+    type Given = ();
+
+    fn lend(&self) -> Lent<u8> {
+        Lent::bytes(&self.bytes)
+    }
+
+    fn plain(&self, bytes: &mut Lent<u8>) -> (Answer, ()) {
+        let after = plain::write(bytes, self.count, self.place, &self.record);
+        (answer(after.map(|after| after as u64)), ())
+    }
+
+    fn proved(&self, bytes: &mut Lent<u8>) -> (Answer, ()) {
+        let answer = l1oc::write(bytes, self.count, self.place, self.record);
+        (answer, ())
+    }
+
+    fn shrink(shrink: &mut Shrink<Self>) {
+        shrink.recording(|call| (&mut call.bytes, &mut call.count, Some(&mut call.place)));
+        shrink.record(|call| &mut call.record);
+    }
+
+    fn input(&self) -> String {
+        let (bytes, record) = (hex(&self.bytes), self.record);
+        format!(
+            "count {}, place {}, bytes {bytes}\n  {record:?}",
+            self.count, self.place
+        )
+    }
+}
+
+impl Outcome<Write> {
+    /// The recording afterwards.
+    pub fn recording(&self) -> Vec<u8> {
+        self.lent.to_vec()
+    }
+}
+
+impl Run {
+    pub fn write(
+        &mut self,
+        bytes: &[u8],
+        count: usize,
+        place: usize,
+        record: &Record,
+    ) -> Outcome<Write> {
+        self.compare(Write {
+            bytes: bytes.to_vec(),
+            count,
+            place,
+            record: *record,
+        })
+    }
+}

@@ -1,0 +1,76 @@
+//! Lent memory between guards, which must stay as they are.
+
+use std::any::type_name;
+use std::fmt::Debug;
+use std::ops::{Deref, DerefMut};
+
+/// Entries on each side. The count is odd, so lent bytes begin at an odd address.
+const GUARD: usize = 13;
+
+/// Lent memory with its guards; as a slice it is what is lent.
+#[derive(PartialEq)]
+pub struct Lent<T>(Vec<T>);
+
+impl Lent<u8> {
+    /// The bytes, between guards that are neither all 0 nor all 1.
+    pub fn bytes(bytes: &[u8]) -> Self {
+        let guard: Vec<u8> = (0..GUARD).map(|place| (place * 53 + 75) as u8).collect();
+        Lent([&guard, bytes, &guard].concat())
+    }
+}
+
+impl Lent<u32> {
+    /// A list of so many entries, each entry different from the others.
+    pub fn list(room: usize) -> Self {
+        let places = 0..room + 2 * GUARD;
+        Lent(places.map(|place| 0xABCD_0000 + place as u32).collect())
+    }
+}
+
+impl<T> Deref for Lent<T> {
+    type Target = [T];
+
+    fn deref(&self) -> &[T] {
+        &self.0[GUARD..self.0.len() - GUARD]
+    }
+}
+
+impl<T> DerefMut for Lent<T> {
+    fn deref_mut(&mut self) -> &mut [T] {
+        let end = self.0.len() - GUARD;
+        &mut self.0[GUARD..end]
+    }
+}
+
+/// All that a call is lent: nothing, one piece of memory, or two.
+pub trait Memory: PartialEq {
+    /// Prints where the memory that the plain side left differs from the proved side's.
+    fn print_difference(&self, proved: &Self);
+}
+
+impl Memory for () {
+    fn print_difference(&self, _: &()) {}
+}
+
+impl<T: PartialEq + Debug> Memory for Lent<T> {
+    /// The first entry that differs; places outside the lent ones belong to the guards.
+    fn print_difference(&self, proved: &Self) {
+        let (plain, proved) = (&self.0, &proved.0);
+        if let Some(place) = (0..plain.len()).find(|place| plain[*place] != proved[*place]) {
+            println!(
+                "lent {} {} afterwards: plain {:x?}, proved {:x?}",
+                type_name::<T>(),
+                place as i64 - GUARD as i64,
+                plain[place],
+                proved[place]
+            );
+        }
+    }
+}
+
+impl<A: Memory, B: Memory> Memory for (A, B) {
+    fn print_difference(&self, proved: &Self) {
+        self.0.print_difference(&proved.0);
+        self.1.print_difference(&proved.1);
+    }
+}
