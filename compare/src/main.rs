@@ -1,7 +1,7 @@
 //! Compares the proved implementation with a second, plain one.
 //!
 //! `compare` runs every group once; `compare --long N` makes the random groups N times as long,
-//! with further random numbers.
+//! with further random numbers. `compare --recordings FOLDER` makes the recordings of `tests/list`.
 
 #![deny(warnings)]
 
@@ -11,6 +11,7 @@ mod lent;
 mod make;
 mod plain;
 mod random;
+mod recordings;
 mod run;
 mod shrink;
 
@@ -22,16 +23,30 @@ use std::process::exit;
 
 fn main() {
     let arguments: Vec<String> = env::args().skip(1).collect();
-    let long = match arguments.iter().map(String::as_str).collect::<Vec<_>>()[..] {
-        [] => 1,
-        ["--long", times] => times.parse().unwrap_or(0),
-        _ => 0,
-    };
-    if long == 0 {
-        eprintln!("unknown arguments: {}", arguments.join(" "));
-        eprintln!("usage: compare [--long N], N at least 1");
-        exit(2);
+    match arguments.iter().map(String::as_str).collect::<Vec<_>>()[..] {
+        [] => compare(1),
+        ["--long", times] => match times.parse() {
+            Ok(long @ 1..) => compare(long),
+            _ => wrong_use(),
+        },
+        ["--recordings", folder] => {
+            if let Err(error) = recordings::make(folder.as_ref()) {
+                eprintln!("{folder}: {error}");
+                exit(1);
+            }
+        }
+        _ => wrong_use(),
     }
+}
+
+fn wrong_use() -> ! {
+    eprintln!("usage: compare [--long N], N at least 1");
+    eprintln!("       compare --recordings FOLDER");
+    exit(2)
+}
+
+/// Runs every group.
+fn compare(long: usize) {
     let mut run = Run {
         random: Random::new(0),
         long,

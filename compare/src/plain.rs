@@ -2,6 +2,7 @@
 //! It is slow, and meant to be held beside the papers.
 
 pub mod check;
+pub mod report;
 pub mod table;
 pub mod value;
 

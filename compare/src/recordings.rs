@@ -1,0 +1,149 @@
+//! The recordings of `tests/list`, and what the program `list` should print for each.
+
+mod twister;
+
+use crate::make;
+use crate::plain::report::report;
+use crate::plain::{self, table, LIMIT};
+use l1oc::Record;
+use std::fs;
+use std::io;
+use std::path::Path;
+use twister::Twister;
+
+/// Makes each recording as NAME.bin, and what `list` prints of it as NAME.csv.
+pub fn make(folder: &Path) -> io::Result<()> {
+    let random = &mut Twister::new(20_261_115);
+    for (name, text) in [
+        ("empty", String::new()),
+        ("out_of_range", out_of_range(random)),
+        ("other_orbit", other_orbit(random)),
+        ("damaged", damaged(random)),
+        ("all_types", all_types(random)),
+    ] {
+        let bytes = make::pack(&text);
+        fs::write(folder.join(name).with_extension("csv"), report(&bytes))?;
+        fs::write(folder.join(name).with_extension("bin"), bytes)?;
+    }
+    // Of this one only the text is kept.
+    let longer = vec![0; LIMIT / 8 + 1];
+    fs::write(folder.join("refused.csv"), report(&longer))
+}
+
+/// The service fields that matter here; all others are zero.
+fn service(kind: u8, satellite: u8, time: u16) -> Record {
+    Record {
+        kind,
+        satellite,
+        time,
+        ..Record::BLANK
+    }
+}
+
+/// A string of the record's service fields with these information bits.
+fn string(record: Record, information: &str) -> String {
+    let before = &plain::text_before_check(&record)[..50];
+    make::close(&format!("{before}{information}"), record.kind)
+}
+
+/// A string of the record as it is.
+fn blank(record: Record) -> String {
+    make::close(&plain::text_before_check(&record), record.kind)
+}
+
+fn random_bits(random: &mut Twister, many: usize) -> String {
+    (0..many)
+        .map(|_| random.between(0, 1).to_string())
+        .collect()
+}
+
+/// Information bits that read, for the type.
+fn information(random: &mut Twister, kind: u8) -> String {
+    let Some(fields) = table::information(kind) else {
+        return random_bits(random, plain::raw_width(kind));
+    };
+    let mut text = String::new();
+    for field in fields {
+        text += &match field.signed {
+            true => random_bits(random, field.width),
+            false => {
+                let number = random.between(field.low, field.high);
+                format!("{number:0width$b}", width = field.width)
+            }
+        };
+    }
+    if kind == 20 {
+        text.replace_range(..2, "00");
+    }
+    text
+}
+
+/// Satellite 0, OMB one too high, and the highest type, satellite and OMB.
+fn out_of_range(random: &mut Twister) -> String {
+    let ephemeris = information(random, 10);
+    [
+        "101",
+        &blank(service(0, 0, 7)),
+        &string(service(10, 5, 43200), &ephemeris),
+        &blank(service(63, 63, 43199)),
+    ]
+    .concat()
+}
+
+/// Almanacs of the orbit 00 and of another; 7 comes before 8.
+fn other_orbit(random: &mut Twister) -> String {
+    let mut other = information(random, 20);
+    other.replace_range(..2, "01");
+    let good = information(random, 20);
+    [
+        string(service(20, 5, 1), &good),
+        string(service(20, 5, 2), &other),
+        string(service(20, 0, 3), &other),
+    ]
+    .concat()
+}
+
+/// Noise before, between and in strings of every length, and a last string without its last bit.
+fn damaged(random: &mut Twister) -> String {
+    let plain = |kind, correction, time| {
+        blank(Record {
+            correction,
+            ..service(kind, 5, time)
+        })
+    };
+    let (before, between) = (random_bits(random, 157), random_bits(random, 40));
+    let position = information(random, 11);
+    [
+        &before,
+        &plain(0, 0, 12),
+        &make::turn(&plain(0, 0, 10), 60, "10000000001"),
+        &plain(1, 3, 13),
+        &plain(2, 0, 11)[..300],
+        &between,
+        &plain(2, 1, 14),
+        &string(service(11, 5, 15), &position),
+        &plain(0, 0, 16)[..249],
+    ]
+    .concat()
+}
+
+/// A string of each type with any fields, end to end.
+fn all_types(random: &mut Twister) -> String {
+    let one = |kind| {
+        let mut below = |end: i64| random.between(0, end - 1);
+        let record = Record {
+            kind,
+            satellite: 1 + below(63) as u8,
+            signal: below(2) as u8,
+            validity: below(2) as u8,
+            call: below(16) as u8,
+            attitude: below(2) as u8,
+            correction: below(4) as u8,
+            next: below(2) as u8,
+            time: below(43200) as u16,
+            ..Record::BLANK
+        };
+        string(record, &information(random, kind))
+    };
+    (0..64).map(one).collect()
+}
