@@ -3,8 +3,8 @@ mod bits;
 mod check;
 pub mod layout;
 mod read;
+mod refusals;
 mod search;
-mod tests;
 mod write;
 
 pub use read::read;

@@ -1,5 +1,5 @@
 //! Reading the string at a place.
-use super::{answer, bits, check_passes, layout, place_tests, tests, MARK};
+use super::{answer, bits, check_passes, layout, place_tests, refusals, MARK};
 use l1oc::{Answer, Reading, Record};
 
 /// Reads the string at a place.
@@ -59,8 +59,8 @@ fn decode(bytes: &[u8], place: usize, kind: u8, r: &mut Record) -> Result<(), An
     r.correction = (service >> 17 & 3) as u8;
     r.next = (service >> 16 & 1) as u8;
     r.time = service as u16;
-    tests::range(2, r.satellite.into(), 1, 63)?;
-    tests::range(9, r.time.into(), 0, 43199)?;
+    refusals::range(2, r.satellite.into(), 1, 63)?;
+    refusals::range(9, r.time.into(), 0, 43199)?;
 
     let mut at = offset + 50;
     let fields = layout::fields_of(kind);
@@ -74,10 +74,10 @@ fn decode(bytes: &[u8], place: usize, kind: u8, r: &mut Record) -> Result<(), An
             r.minus |= u16::from(sign == 1 && magnitude == 0) << i;
         } else {
             *number = value as i64;
-            tests::range(10 + i, *number, field.least, field.most)?;
+            refusals::range(10 + i, *number, field.least, field.most)?;
         }
     }
-    tests::orbit_test(r)?;
+    refusals::orbit_test(r)?;
     if fields.is_empty() {
         copy_raw(&window, at, layout::raw_bits(kind), &mut r.raw);
     }

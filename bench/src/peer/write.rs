@@ -1,6 +1,6 @@
 //! Writing a record as a string.
 use super::bits::{self, Writer};
-use super::{answer, check, layout, place_tests, tests, MARK};
+use super::{answer, check, layout, place_tests, refusals, MARK};
 use l1oc::{Answer, Record};
 
 /// Writes the string of a record at a place.
@@ -14,7 +14,7 @@ pub fn write(bytes: &mut [u8], count: usize, place: usize, r: &Record) -> Answer
 fn write_string(bytes: &mut [u8], count: usize, place: usize, r: &Record) -> Result<usize, Answer> {
     place_tests(bytes, count, place)?;
     let fields = layout::fields_of(r.kind);
-    tests::record_tests(r, fields)?;
+    refusals::record_tests(r, fields)?;
     let length = layout::length(r.kind);
     if count - place < length {
         return Err(answer(5, place));
