@@ -8,11 +8,6 @@
 #include <stdio.h>
 #include "l1oc.h"
 
-enum {
-    MAX_BYTES = 65536, /* 524288 bits, the most that a recording may have */
-    MAX_STARTS = 4194  /* 524288 / 125: no recording holds more strings */
-};
-
 /* The field that is printed of each type: its number in the record, its name and unit. */
 struct shown {
     uint8_t kind;
@@ -34,7 +29,8 @@ static int print_string(const uint8_t *bytes, size_t length, size_t place)
     size_t i;
 
     if (reading.number != 0) {
-        fprintf(stderr, "ephemeris: the string at bit %zu is refused with %" PRIu64 ", %" PRIu64 "\n", place, reading.number, reading.value);
+        fprintf(stderr, "ephemeris: the string at bit %zu is refused with %" PRIu64 ", %" PRIu64 "\n", place, reading.number,
+                reading.value);
         return 1;
     }
     for (i = 0; i < sizeof shown / sizeof shown[0]; i++) {
@@ -43,7 +39,8 @@ static int print_string(const uint8_t *bytes, size_t length, size_t place)
 
             /* the record was just read and the field has a power of two, so this is never refused */
             if (value.number != 0) {
-                fprintf(stderr, "ephemeris: field %zu is refused with %" PRIu64 ", %" PRIu64 "\n", shown[i].field, value.number, value.value);
+                fprintf(stderr, "ephemeris: field %zu is refused with %" PRIu64 ", %" PRIu64 "\n", shown[i].field, value.number,
+                        value.value);
                 return 1;
             }
             printf("bit %zu, satellite %d, type %d: %s = %.17g %s\n", place, reading.content.satellite, reading.content.kind, shown[i].name,
@@ -55,8 +52,8 @@ static int print_string(const uint8_t *bytes, size_t length, size_t place)
 
 int main(int argc, char **argv)
 {
-    static uint8_t bytes[MAX_BYTES + 1]; /* one more, so that a recording that is too long is seen */
-    static uint32_t starts[MAX_STARTS];
+    static uint8_t bytes[L1OC_MAX_BYTES + 1]; /* one more, so that a recording that is too long is seen */
+    static uint32_t starts[L1OC_MAX_STARTS];
     struct l1oc_answer answer;
     FILE *input = stdin;
     size_t length;
@@ -83,9 +80,9 @@ int main(int argc, char **argv)
         fclose(input);
     }
 
-    answer = l1oc_list(bytes, length, 8 * length, starts, MAX_STARTS);
-    if (answer.number == 1) {
-        fprintf(stderr, "ephemeris: the recording is longer than %d bytes\n", MAX_BYTES);
+    answer = l1oc_list(bytes, length, 8 * length, starts, L1OC_MAX_STARTS);
+    if (answer.number == L1OC_TOO_LONG) {
+        fprintf(stderr, "ephemeris: the recording is longer than %d bits\n", L1OC_MAX_BITS);
         return 1;
     }
     if (answer.number != 0) {

@@ -52,7 +52,7 @@ int main(int argc, char **argv)
 
     written = l1oc_write(bytes, LENGTH, 8 * LENGTH, place, record);
     if (written.number != 0) {
-        /* 3: the place is past the buffer; 5: the string would run past it; 7: a field is out of its range */
+        /* L1OC_BEYOND_COUNT: the place is past the buffer; L1OC_RUNS_OUT: the string would run past it; L1OC_OUT_OF_RANGE: a field */
         fprintf(stderr, "writestring: writing is refused with %" PRIu64 ", %" PRIu64 "\n", written.number, written.value);
         return 1;
     }
@@ -66,7 +66,8 @@ int main(int argc, char **argv)
         fprintf(stderr, "writestring: reading is refused with %" PRIu64 ", %" PRIu64 "\n", reading.number, reading.value);
         return 1;
     }
-    printf("read back: type %d, satellite %d, x y z = %" PRId64 " %" PRId64 " %" PRId64 " counts, minus-zero mark %d\n", reading.content.kind,
-           reading.content.satellite, reading.content.numbers[0], reading.content.numbers[1], reading.content.numbers[2], reading.content.minus);
+    printf("read back: type %d, satellite %d, x y z = %" PRId64 " %" PRId64 " %" PRId64 " counts, minus-zero mark %d\n",
+           reading.content.kind, reading.content.satellite, reading.content.numbers[0], reading.content.numbers[1],
+           reading.content.numbers[2], reading.content.minus);
     return 0;
 }

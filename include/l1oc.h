@@ -1,27 +1,16 @@
 /*
  * l1oc.h: strings of the L1OCd signal for C99 and C++. Link with libl1oc.a (x86-64 Linux, `rt staticlib l1oc`).
  *
- * A recording is `length` lent bytes of which the first `count` bits count; the high bit of a byte comes first. Places count bits from 0. A string of
- * type 1 has 125 bits, of type 2 375, of every other type 250.
+ * A recording is `length` lent bytes of which the first `count` bits count; the high bit of a byte comes first. Places count bits from 0.
+ * A string of type 1 has 125 bits, of type 2 375, of every other type 250.
  *
- * Every function answers for every value of its numbers. What is asked of the caller: a pointer leads to as many elements as the length beside it says,
- * aligned as its type asks, and set; `bytes` and `list` share no memory; nobody else writes to them during the call. Where the length is 0
- * nothing is read or written through the pointer, which may then be null. No function keeps a pointer, allocates, or has state of its own.
+ * Every function answers for every value of its numbers. What is asked of the caller: a pointer leads to as many elements as the length
+ * beside it says, aligned as its type asks, and set; `bytes` and `list` share no memory; nobody else writes to them during the call.
+ * Where the length is 0 nothing is read or written through the pointer, which may then be null. No function keeps a pointer, allocates,
+ * or has state of its own.
  *
- * Every answer has a number and a value. Number 0: done. Otherwise the first test that fails, and lent memory is left as it was:
- *
- *   number  value         when
- *   1       0             count is above 524288
- *   2       0             count is above 8 * length
- *   3       place         place is above count
- *   4       place         the bits at place are not the time mark
- *   5       place         reading: fewer than 18 bits are left, or the string runs past count; writing: it would
- *   6       place         the check fails
- *   7       field         the first field that is out of its range, by its number (1 to 25); or as a function says below
- *   8       10            type 20 with orbit (field 10) not 0
- *   9       count needed  the list is too short
- *   10      bit           the lowest bit of the minus-zero mark that is on an unsigned, absent or non-zero field
- *   11      0             a number or a raw bit that the type does not use is not 0
+ * Every answer has a number and a value. Number 0: done. Otherwise the first test that fails, a number of `enum l1oc_refusal`, and lent
+ * memory is left as it was.
  */
 #ifndef L1OC_H
 #define L1OC_H
@@ -33,6 +22,31 @@
 extern "C" {
 #endif
 
+/* The most bits of a recording, the bytes that hold them, and the entries of a list that is long enough for every recording. */
+#define L1OC_MAX_BITS 524288
+#define L1OC_MAX_BYTES ((L1OC_MAX_BITS + 7) / 8)
+#define L1OC_MAX_STARTS (L1OC_MAX_BITS / 125 + 1)
+
+/* The numbers and the raw bytes of a record, and the bytes that a record has. */
+#define L1OC_NUMBERS 16
+#define L1OC_RAW_BYTES 38
+#define L1OC_RECORD_BYTES 184
+
+/* Why a call is refused: the numbers, each with its value and when. */
+enum l1oc_refusal {
+    L1OC_TOO_LONG = 1,     /* 0: count is above L1OC_MAX_BITS */
+    L1OC_BEYOND_BYTES = 2, /* 0: count is above 8 * length */
+    L1OC_BEYOND_COUNT = 3, /* place: it is above count */
+    L1OC_NO_MARK = 4,      /* place: the bits there are not the time mark */
+    L1OC_RUNS_OUT = 5,     /* place: reading, fewer than 18 bits are left or the string runs past count; writing, it would */
+    L1OC_CHECK_FAILS = 6,  /* place: the check of the string there fails */
+    L1OC_OUT_OF_RANGE = 7, /* field: the first that is out of its range, by its number from 1 on; or as a function says below */
+    L1OC_OTHER_ORBIT = 8,  /* 10: type 20 with orbit (field 10) not 0 */
+    L1OC_LIST_SHORT = 9,   /* entries needed: the list is too short */
+    L1OC_MINUS_ZERO = 10,  /* bit: the lowest of the minus-zero mark that is on an unsigned, absent or non-zero field */
+    L1OC_NOT_ZERO = 11     /* 0: a number or a raw bit that the type does not use is not 0 */
+};
+
 /* An answer. */
 struct l1oc_answer {
     uint64_t number; /* 0, or the number of a refusal */
@@ -40,33 +54,37 @@ struct l1oc_answer {
 };
 
 /*
- * A string by its fields. Fields 1 to 9 are the service fields, which every type has. Types 10, 11, 12, 20 and 25 have information fields, from 10 on;
- * the other types have raw bits instead. What a type does not use is 0.
+ * A string by its fields. Fields 1 to 9 are the service fields, which every type has. Types 10, 11, 12, 20 and 25 have information
+ * fields, from 10 on; the other types have raw bits instead. What a type does not use is 0.
  *
  * Information fields with their power of two, where they have one:
- *   type 10: 10 N4, 11 NT, 12 M, 13 frame size, 14 tb (90 s), 15 16 ages, 17 18 modes, 19 20 accuracy factors (signed) of ephemeris and clock,
- *            21 tau -38, 22 gamma -48, 23 beta -57, 24 tau_c -31, 25 its rate -49
+ *   type 10: 10 N4, 11 NT, 12 M, 13 frame size, 14 tb (90 s), 15 16 ages, 17 18 modes, 19 20 accuracy factors (signed) of ephemeris and
+ *            clock, 21 tau -38, 22 gamma -48, 23 beta -57, 24 tau_c -31, 25 its rate -49
  *   type 11: 10 11 12 x y z -20 (km), 13 x rate -30 (km/s), 14 15 antenna dx dy -10 (m), 16 reserve
- *   type 12: 10 antenna dz -10 (m), 11 12 y and z rates -30 (km/s), 13 14 15 accelerations -39 (km/s^2), 16 L2 shift -38, 17 GPS shift -38, 18 reserve
- *   type 20: 10 orbit, 11 Ns, 12 age EA, 13 day NA, 14 signals, 15 M, 16 tau -20, 17 lambda -20, 18 its time -5, 19 di -20, 20 eccentricity -20,
- *            21 omega -15, 22 dT -9, 23 its rate -14, 24 reserve
- *   type 25: 10 day, 11 12 xp yp -14, 13 14 their rates -14, 15 16 their accelerations -14, 17 B0 -16, 18 B1 -16, 19 B2 -16, 20 c_A -7, 21 c_F -4,
- *            22 c_Ap, 23 UTC-TAI (signed), 24 reserve
+ *   type 12: 10 antenna dz -10 (m), 11 12 y and z rates -30 (km/s), 13 14 15 accelerations -39 (km/s^2), 16 L2 shift -38,
+ *            17 GPS shift -38, 18 reserve
+ *   type 20: 10 orbit, 11 Ns, 12 age EA, 13 day NA, 14 signals, 15 M, 16 tau -20, 17 lambda -20, 18 its time -5, 19 di -20,
+ *            20 eccentricity -20, 21 omega -15, 22 dT -9, 23 its rate -14, 24 reserve
+ *   type 25: 10 day, 11 12 xp yp -14, 13 14 their rates -14, 15 16 their accelerations -14, 17 B0 -16, 18 B1 -16, 19 B2 -16, 20 c_A -7,
+ *            21 c_F -4, 22 c_Ap, 23 UTC-TAI (signed), 24 reserve
  */
 struct l1oc_record {
-    uint8_t kind;        /* field 1: the type, 0 to 63 */
-    uint8_t satellite;   /* field 2: satellite number j, 1 to 63; in type 20 the almanac's satellite */
-    uint8_t signal;      /* field 3: signal flag, 0 good */
-    uint8_t validity;    /* field 4: data flag, 0 good */
-    uint8_t call;        /* field 5: call, 0 to 15 */
-    uint8_t attitude;    /* field 6: attitude, 0 or 1 */
-    uint8_t correction;  /* field 7: correction code KP: 0 none, 1 day longer, 2 undecided, 3 day shorter */
-    uint8_t next;        /* field 8: A, 1 where the correction is at the end of the next string */
-    uint16_t time;       /* field 9: OMB, the time mark count in units of 2 s, 0 to 43199 */
-    int64_t numbers[16]; /* numbers[i]: field 10 + i, in counts; reserve fields too */
-    uint16_t minus;      /* minus-zero mark: bit i, the lowest is bit 0, where field 10 + i is minus zero; its number is 0 then */
-    uint8_t raw[38];     /* the raw bits of the other types, high bit first: 59 of type 1, 301 of type 2, else 184; then zeros */
+    uint8_t kind;                  /* field 1: the type, 0 to 63 */
+    uint8_t satellite;             /* field 2: satellite number j, 1 to 63; in type 20 the almanac's satellite */
+    uint8_t signal;                /* field 3: signal flag, 0 good */
+    uint8_t validity;              /* field 4: data flag, 0 good */
+    uint8_t call;                  /* field 5: call, 0 to 15 */
+    uint8_t attitude;              /* field 6: attitude, 0 or 1 */
+    uint8_t correction;            /* field 7: correction code KP: 0 none, 1 day longer, 2 undecided, 3 day shorter */
+    uint8_t next;                  /* field 8: A, 1 where the correction is at the end of the next string */
+    uint16_t time;                 /* field 9: OMB, the time mark count in units of 2 s, 0 to 43199 */
+    int64_t numbers[L1OC_NUMBERS]; /* numbers[i]: field 10 + i, in counts; reserve fields too */
+    uint16_t minus;                /* minus-zero mark: bit i, the lowest is bit 0, where field 10 + i is minus zero; its number is 0 then */
+    uint8_t raw[L1OC_RAW_BYTES];   /* raw bits of the other types, high bit first: 59 of type 1, 301 of type 2, else 184; then zeros */
 };
+
+/* Stops a compiler that lays the record out otherwise than the library. */
+typedef char l1oc_record_is_as_in_the_library[sizeof(struct l1oc_record) == L1OC_RECORD_BYTES ? 1 : -1];
 
 /* What reading answers. */
 struct l1oc_reading {
@@ -83,11 +101,13 @@ struct l1oc_value {
 };
 
 /*
- * Lists the starts of the strings in the first `count` bits. From place 0 on: where a string stands it is listed and the next place is just after it;
- * elsewhere the next place is one bit on. A string stands where the mark is there, it fits in `count`, and its check passes.
+ * Lists the starts of the strings in the first `count` bits. From place 0 on: where a string stands it is listed and the next place is
+ * just after it; elsewhere the next place is one bit on. A string stands where the mark is there, it fits in `count`, and its check
+ * passes.
  *
- * Gives 0 and how many starts there are. They are then the first entries of `list`, which has room for `room`; its other entries are left as they were.
- * 4194 entries are enough for every recording. A refusal leaves the whole list as it was. `bytes` is only read.
+ * Gives 0 and how many starts there are. They are then the first entries of `list`, which has room for `room`; its other entries are
+ * left as they were. L1OC_MAX_STARTS entries are enough for every recording. A refusal leaves the whole list as it was. `bytes` is only
+ * read.
  * Refuses, in this order, with 1, 2, 9 (room is less than the starts that there are: the value).
  */
 struct l1oc_answer l1oc_list(const uint8_t *bytes, size_t length, size_t count, uint32_t *list, size_t room);
@@ -113,8 +133,8 @@ struct l1oc_answer l1oc_write(uint8_t *bytes, size_t length, size_t count, size_
  * The value of a field that has a power of two, by its number: exactly its count times that power. Minus zero gives plus zero.
  *
  * Gives 0, 0 and the value.
- * Refuses, in this order, with 7, 8, 11, 10 for the record as writing does; then with 7 and `field` where that is the number of no field of the type, or
- * of a field without a power.
+ * Refuses, in this order, with 7, 8, 11, 10 for the record as writing does; then with 7 and `field` where that is the number of no
+ * field of the type, or of a field without a power.
  */
 struct l1oc_value l1oc_scaled(struct l1oc_record content, size_t field);
 

@@ -1,7 +1,7 @@
 //! That both sides give the same answers and leave the same memory, before they are measured.
 use crate::input::{self, Hour, Numbers, HOUR_BITS};
 use crate::sides::{Library, Peer, Side};
-use l1oc::Record;
+use l1oc::{Record, MAX_BITS, MAX_STARTS, NUMBERS, RAW_BYTES};
 
 /// Compares both sides on the inputs, on damaged ones and at the limits. Stops at the first difference.
 pub fn check(hour: &Hour, noise: &[u8]) {
@@ -26,7 +26,7 @@ pub fn check(hour: &Hour, noise: &[u8]) {
 
 /// Listing, with a list that is long enough, as long as needed, and too short.
 fn lists(bytes: &[u8], count: usize) {
-    let needed = list_into(bytes, count, 4194);
+    let needed = list_into(bytes, count, MAX_STARTS);
     for room in [needed, needed.saturating_sub(1), 0] {
         list_into(bytes, count, room);
     }
@@ -88,7 +88,7 @@ fn damaged(hour: &Hour) {
 fn limits(noise: &[u8]) {
     let record = input::random_record(&mut Numbers::new(5), 10);
     let long = [noise, &[0; 8]].concat();
-    for count in [524_288, 524_289, usize::MAX] {
+    for count in [MAX_BITS, MAX_BITS + 1, usize::MAX] {
         lists(&long, count);
         for place in [0, count.wrapping_sub(250), count, count.wrapping_add(1)] {
             reads(&long, count, place);
@@ -129,7 +129,10 @@ fn records(numbers: &mut Numbers, kind: u8) {
 
 /// A record with one place changed.
 fn spoil(numbers: &mut Numbers, mut r: Record) -> Record {
-    let (byte, i) = (numbers.next() as u8, numbers.within(0, 15) as usize);
+    let (byte, i) = (
+        numbers.next() as u8,
+        numbers.within(0, NUMBERS as i64 - 1) as usize,
+    );
     match numbers.within(0, 13) {
         0 => r.kind = byte,
         1 => r.satellite = byte,
@@ -143,7 +146,7 @@ fn spoil(numbers: &mut Numbers, mut r: Record) -> Record {
         9 => r.numbers[i] = numbers.next() as i64 >> numbers.within(0, 63),
         10 => r.numbers[i] = i64::MIN,
         11 => r.minus ^= 1 << i,
-        12 => r.raw[numbers.within(0, 37) as usize] ^= 1 << (byte % 8),
+        12 => r.raw[numbers.within(0, RAW_BYTES as i64 - 1) as usize] ^= 1 << (byte % 8),
         _ => r.numbers[i] = 1,
     }
     r

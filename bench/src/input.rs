@@ -1,12 +1,12 @@
 //! The inputs, from fixed seeds: an hour of strings, and noise.
 use crate::peer::{self, layout};
-use l1oc::Record;
+use l1oc::{Record, MAX_BITS};
 
 /// An hour and its leap second at 125 bit/s.
 pub const HOUR_BITS: usize = 450_125;
 
 /// The bytes of the noise.
-pub const NOISE_BYTES: usize = 65_536;
+pub const NOISE_BYTES: usize = MAX_BITS / 8;
 
 /// A generator of numbers (splitmix64).
 pub struct Numbers(u64);

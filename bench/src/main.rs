@@ -45,7 +45,7 @@ fn count(row: &str, side: &str, times: &str) {
 fn inputs() -> Bench {
     let hour = input::hour();
     Bench {
-        list: vec![0; 4194],
+        list: vec![0; l1oc::MAX_STARTS],
         buffer: vec![0; hour.bytes.len()],
         noise: input::noise(),
         hour,

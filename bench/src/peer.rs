@@ -11,10 +11,8 @@ pub use read::read;
 pub use search::list;
 pub use write::write;
 
-use l1oc::Answer;
-
-/// The most bits of a recording.
-const LIMIT: usize = 524_288;
+use l1oc::refusal::{BEYOND_BYTES, BEYOND_COUNT, TOO_LONG};
+use l1oc::{Answer, MAX_BITS};
 
 /// The time mark, 12 bits.
 const MARK: u64 = 0x5F1;
@@ -29,11 +27,11 @@ fn answer(number: u64, value: usize) -> Answer {
 
 /// Tests 1 and 2.
 fn recording_tests(bytes: &[u8], count: usize) -> Result<(), Answer> {
-    if count > LIMIT {
-        return Err(answer(1, 0));
+    if count > MAX_BITS {
+        return Err(answer(TOO_LONG, 0));
     }
     if count.div_ceil(8) > bytes.len() {
-        return Err(answer(2, 0));
+        return Err(answer(BEYOND_BYTES, 0));
     }
     Ok(())
 }
@@ -42,7 +40,7 @@ fn recording_tests(bytes: &[u8], count: usize) -> Result<(), Answer> {
 fn place_tests(bytes: &[u8], count: usize, place: usize) -> Result<(), Answer> {
     recording_tests(bytes, count)?;
     if place > count {
-        return Err(answer(3, place));
+        return Err(answer(BEYOND_COUNT, place));
     }
     Ok(())
 }

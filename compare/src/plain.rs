@@ -6,7 +6,7 @@ pub mod report;
 pub mod table;
 pub mod value;
 
-use l1oc::{Answer, Record};
+use l1oc::{Answer, Mark, Record};
 use table::Field;
 
 /// "Bit count above 524,288."
@@ -207,12 +207,12 @@ pub fn record_passes(record: &Record) -> Result<(), Answer> {
     ranges_pass(record)?;
     let fields = table::information(record.kind).unwrap_or_default();
     let unused = &record.numbers[fields.len()..];
-    let raw = bits(&record.raw, 0, 304);
+    let raw = bits(&record.raw, 0, 8 * record.raw.len());
     let filling = &raw[raw_width(record.kind)..];
     if unused.iter().any(|number| *number != 0) || filling.contains('1') {
         return Err(refuse(11, 0));
     }
-    for bit in 0..16 {
+    for bit in 0..Mark::BITS as usize {
         let marked = record.minus >> bit & 1 == 1;
         let zero = bit < fields.len() && fields[bit].signed && record.numbers[bit] == 0;
         if marked && !zero {

@@ -2,7 +2,7 @@
 
 use crate::calls::Call;
 use crate::make::set;
-use l1oc::Record;
+use l1oc::{Mark, Record, NUMBERS, RAW_BYTES};
 
 /// No more tries than this.
 const TRIES: usize = 4000;
@@ -75,13 +75,13 @@ impl<C: Call> Shrink<C> {
 
     /// Sets the places of a record to zero, the satellite to 1.
     pub fn record(&mut self, part: fn(&mut C) -> &mut Record) {
-        for field in 2..26 {
+        for field in 2..10 + NUMBERS {
             self.keep(|call| set(part(call), field, (field == 2).into()));
         }
-        for bit in 0..16 {
+        for bit in 0..Mark::BITS {
             self.keep(|call| part(call).minus &= !(1 << bit));
         }
-        for place in 0..38 {
+        for place in 0..RAW_BYTES {
             self.keep(|call| part(call).raw[place] = 0);
         }
     }

@@ -1,4 +1,12 @@
-//! The C interface for Rust: the types and functions of `include/l1oc.h`, which says what each gives.
+//! The C interface for Rust: the limits, types and functions of `include/l1oc.h`, which says what each gives.
+
+// MAX_BITS and the other limits and sizes, and `refusal` with the numbers, from the header.
+#[allow(unused_parens)]
+mod header {
+    include!(concat!(env!("OUT_DIR"), "/header.rs"));
+}
+
+pub use header::*;
 
 /// An answer: 0 and the value asked for, or the number of a refusal and its value.
 #[repr(C)]
@@ -7,6 +15,9 @@ pub struct Answer {
     pub number: u64,
     pub value: u64,
 }
+
+/// A minus-zero mark: bit i, the lowest is bit 0, for field 10 + i.
+pub type Mark = u16;
 
 /// A string by its fields.
 #[repr(C)]
@@ -21,9 +32,9 @@ pub struct Record {
     pub correction: u8,
     pub next: u8,
     pub time: u16,
-    pub numbers: [i64; 16],
-    pub minus: u16,
-    pub raw: [u8; 38],
+    pub numbers: [i64; NUMBERS],
+    pub minus: Mark,
+    pub raw: [u8; RAW_BYTES],
 }
 
 impl Record {
@@ -38,11 +49,13 @@ impl Record {
         correction: 0,
         next: 0,
         time: 0,
-        numbers: [0; 16],
+        numbers: [0; NUMBERS],
         minus: 0,
-        raw: [0; 38],
+        raw: [0; RAW_BYTES],
     };
 }
+
+const _: () = assert!(size_of::<Record>() == RECORD_BYTES);
 
 /// What reading answers: the record, or a refusal beside a blank one.
 #[repr(C)]

@@ -1,6 +1,7 @@
 //! Reading the string at a place.
 use super::{answer, bits, check_passes, layout, place_tests, refusals, MARK};
-use l1oc::{Answer, Reading, Record};
+use l1oc::refusal::{CHECK_FAILS, NO_MARK, RUNS_OUT};
+use l1oc::{Answer, Mark, Reading, Record, RAW_BYTES};
 
 /// Reads the string at a place.
 pub fn read(bytes: &[u8], count: usize, place: usize) -> Reading {
@@ -25,18 +26,18 @@ pub fn read(bytes: &[u8], count: usize, place: usize) -> Reading {
 fn string_tests(bytes: &[u8], count: usize, place: usize) -> Result<u8, Answer> {
     place_tests(bytes, count, place)?;
     if count - place < 18 {
-        return Err(answer(5, place));
+        return Err(answer(RUNS_OUT, place));
     }
     let head = bits::field(bytes, place, 18);
     if head >> 6 != MARK {
-        return Err(answer(4, place));
+        return Err(answer(NO_MARK, place));
     }
     let kind = (head & 63) as u8;
     if count - place < layout::length(kind) {
-        return Err(answer(5, place));
+        return Err(answer(RUNS_OUT, place));
     }
     if !check_passes(bytes, place, kind) {
-        return Err(answer(6, place));
+        return Err(answer(CHECK_FAILS, place));
     }
     Ok(kind)
 }
@@ -71,7 +72,7 @@ fn decode(bytes: &[u8], place: usize, kind: u8, r: &mut Record) -> Result<(), An
             let sign = value >> (field.width - 1);
             let magnitude = (value & !(1 << (field.width - 1))) as i64;
             *number = if sign == 1 { -magnitude } else { magnitude };
-            r.minus |= u16::from(sign == 1 && magnitude == 0) << i;
+            r.minus |= Mark::from(sign == 1 && magnitude == 0) << i;
         } else {
             *number = value as i64;
             refusals::range(10 + i, *number, field.least, field.most)?;
@@ -85,7 +86,7 @@ fn decode(bytes: &[u8], place: usize, kind: u8, r: &mut Record) -> Result<(), An
 }
 
 /// Copies `count` bits to whole bytes, the last filled up with zeros.
-fn copy_raw(window: &[u8; bits::WINDOW], from: usize, count: usize, raw: &mut [u8; 38]) {
+fn copy_raw(window: &[u8; bits::WINDOW], from: usize, count: usize, raw: &mut [u8; RAW_BYTES]) {
     let raw = &mut raw[..count.div_ceil(8)];
     for (i, chunk) in raw.chunks_mut(8).enumerate() {
         let word = bits::any_word(window, from + 64 * i);

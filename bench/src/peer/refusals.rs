@@ -1,13 +1,14 @@
 //! The tests of a record: 7, 8, 11, 10.
 use super::answer;
 use super::layout::{self, Field};
+use l1oc::refusal::{MINUS_ZERO, NOT_ZERO, OTHER_ORBIT, OUT_OF_RANGE};
 use l1oc::{Answer, Record};
 
 /// Test 7 of field `number`.
 #[inline]
 pub fn range(number: usize, value: i64, least: i64, most: i64) -> Result<(), Answer> {
     if value < least || value > most {
-        return Err(answer(7, number));
+        return Err(answer(OUT_OF_RANGE, number));
     }
     Ok(())
 }
@@ -21,7 +22,7 @@ pub fn record_tests(r: &Record, fields: &[Field]) -> Result<(), Answer> {
     orbit_test(r)?;
     let unused = &r.numbers[fields.len()..];
     if unused.iter().any(|&v| v != 0) || !raw_clear(r) {
-        return Err(answer(11, 0));
+        return Err(answer(NOT_ZERO, 0));
     }
     minus_test(r, fields)
 }
@@ -47,7 +48,7 @@ fn service_ranges(r: &Record) -> Result<(), Answer> {
 /// Test 8.
 pub fn orbit_test(r: &Record) -> Result<(), Answer> {
     if r.kind == 20 && r.numbers[0] != 0 {
-        return Err(answer(8, 10));
+        return Err(answer(OTHER_ORBIT, 10));
     }
     Ok(())
 }
@@ -70,7 +71,7 @@ fn minus_test(r: &Record, fields: &[Field]) -> Result<(), Answer> {
         let bit = marks.trailing_zeros() as usize;
         match fields.get(bit) {
             Some(field) if field.signed && r.numbers[bit] == 0 => marks &= marks - 1,
-            _ => return Err(answer(10, bit)),
+            _ => return Err(answer(MINUS_ZERO, bit)),
         }
     }
     Ok(())

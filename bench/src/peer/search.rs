@@ -1,5 +1,6 @@
 //! Listing: the places of the time mark, 48 at a time, and the strings that stand there.
 use super::{answer, bits, check_passes, layout, recording_tests, MARK};
+use l1oc::refusal::LIST_SHORT;
 use l1oc::Answer;
 
 /// Lists the starts of the strings in the first `count` bits.
@@ -16,7 +17,7 @@ pub fn list(bytes: &[u8], count: usize, list: &mut [u32]) -> Answer {
     if list.len() < count / 125 {
         let needed = strings.clone().count();
         if list.len() < needed {
-            return answer(9, needed);
+            return answer(LIST_SHORT, needed);
         }
     }
     let mut found = 0;

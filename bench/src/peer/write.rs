@@ -1,6 +1,7 @@
 //! Writing a record as a string.
 use super::bits::{self, Writer};
 use super::{answer, check, layout, place_tests, refusals, MARK};
+use l1oc::refusal::RUNS_OUT;
 use l1oc::{Answer, Record};
 
 /// Writes the string of a record at a place.
@@ -17,7 +18,7 @@ fn write_string(bytes: &mut [u8], count: usize, place: usize, r: &Record) -> Res
     refusals::record_tests(r, fields)?;
     let length = layout::length(r.kind);
     if count - place < length {
-        return Err(answer(5, place));
+        return Err(answer(RUNS_OUT, place));
     }
     let (offset, end) = (place % 8, place + length);
     let mut string = encode(offset, r, fields);

@@ -2,6 +2,7 @@
 
 use super::{answer, Call};
 use crate::plain::value;
+use l1oc::refusal::OUT_OF_RANGE;
 use l1oc::Answer;
 
 #[derive(Clone)]
@@ -11,7 +12,7 @@ pub struct Accuracy {
 
 impl Call for Accuracy {
     const NAME: &'static str = "accuracy";
-    const NUMBERS: &'static [u64] = &[0, 7];
+    const NUMBERS: &'static [u64] = &[0, OUT_OF_RANGE];
     type Lent = ();
     type Given = ();
 

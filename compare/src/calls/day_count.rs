@@ -2,6 +2,7 @@
 
 use super::{answer, Call};
 use crate::plain::value;
+use l1oc::refusal::OUT_OF_RANGE;
 use l1oc::Answer;
 
 #[derive(Clone)]
@@ -12,7 +13,7 @@ pub struct DayCount {
 
 impl Call for DayCount {
     const NAME: &'static str = "day count";
-    const NUMBERS: &'static [u64] = &[0, 7];
+    const NUMBERS: &'static [u64] = &[0, OUT_OF_RANGE];
     type Lent = ();
     type Given = ();
 

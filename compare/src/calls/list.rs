@@ -5,6 +5,7 @@ use crate::lent::Lent;
 use crate::plain;
 use crate::run::Run;
 use crate::shrink::Shrink;
+use l1oc::refusal::*;
 use l1oc::{c, Answer};
 
 #[derive(Clone)]
@@ -16,7 +17,7 @@ pub struct List {
 
 impl Call for List {
     const NAME: &'static str = "listing";
-    const NUMBERS: &'static [u64] = &[0, 1, 2, 9];
+    const NUMBERS: &'static [u64] = &[0, TOO_LONG, BEYOND_BYTES, LIST_SHORT];
     type Lent = (Lent<u8>, Lent<u32>);
     type Given = ();
 

@@ -5,6 +5,7 @@ use crate::lent::Lent;
 use crate::plain;
 use crate::run::Run;
 use crate::shrink::Shrink;
+use l1oc::refusal::*;
 use l1oc::{c, Answer, Reading, Record};
 
 #[derive(Clone)]
@@ -16,7 +17,17 @@ pub struct Read {
 
 impl Call for Read {
     const NAME: &'static str = "reading";
-    const NUMBERS: &'static [u64] = &[0, 1, 2, 3, 4, 5, 6, 7, 8];
+    const NUMBERS: &'static [u64] = &[
+        0,
+        TOO_LONG,
+        BEYOND_BYTES,
+        BEYOND_COUNT,
+        NO_MARK,
+        RUNS_OUT,
+        CHECK_FAILS,
+        OUT_OF_RANGE,
+        OTHER_ORBIT,
+    ];
     type Lent = Lent<u8>;
     type Given = Record;
 

@@ -4,6 +4,7 @@ use super::{answer, Call, Outcome};
 use crate::plain::value;
 use crate::run::Run;
 use crate::shrink::Shrink;
+use l1oc::refusal::*;
 use l1oc::{Answer, Record, Value};
 use std::fmt;
 
@@ -25,7 +26,7 @@ impl fmt::Debug for Bits {
 
 impl Call for Scaled {
     const NAME: &'static str = "scaling";
-    const NUMBERS: &'static [u64] = &[0, 7, 8, 10, 11];
+    const NUMBERS: &'static [u64] = &[0, OUT_OF_RANGE, OTHER_ORBIT, MINUS_ZERO, NOT_ZERO];
     type Lent = ();
     type Given = Bits;
 

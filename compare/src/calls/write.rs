@@ -5,6 +5,7 @@ use crate::lent::Lent;
 use crate::plain;
 use crate::run::Run;
 use crate::shrink::Shrink;
+use l1oc::refusal::*;
 use l1oc::{Answer, Record};
 
 #[derive(Clone)]
@@ -17,7 +18,17 @@ pub struct Write {
 
 impl Call for Write {
     const NAME: &'static str = "writing";
-    const NUMBERS: &'static [u64] = &[0, 1, 2, 3, 5, 7, 8, 10, 11];
+    const NUMBERS: &'static [u64] = &[
+        0,
+        TOO_LONG,
+        BEYOND_BYTES,
+        BEYOND_COUNT,
+        RUNS_OUT,
+        OUT_OF_RANGE,
+        OTHER_ORBIT,
+        MINUS_ZERO,
+        NOT_ZERO,
+    ];
     type Lent = Lent<u8>;
     type Given = ();
 

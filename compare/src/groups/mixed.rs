@@ -4,7 +4,7 @@ use crate::make;
 use crate::plain::table;
 use crate::random::Random;
 use crate::run::Run;
-use l1oc::Record;
+use l1oc::{Mark, Record, NUMBERS, RAW_BYTES};
 
 /// A record that passes, or one spoiled in up to four places.
 fn record(random: &mut Random) -> Record {
@@ -19,7 +19,7 @@ fn record(random: &mut Random) -> Record {
             0 => {
                 let width = random.below(64);
                 let number = random.next() as i64 >> width;
-                make::set(&mut record, 10 + random.below(16), number);
+                make::set(&mut record, 10 + random.below(NUMBERS), number);
             }
             1 => {
                 let number = random.between(-1, 2);
@@ -29,8 +29,8 @@ fn record(random: &mut Random) -> Record {
                 let number = random.next() as i64 >> random.below(64);
                 make::set(&mut record, 1 + random.below(9), number);
             }
-            3 => record.minus ^= 1 << random.below(16),
-            4 => record.raw[random.below(38)] ^= 1 << random.below(8),
+            3 => record.minus ^= 1 << random.below(Mark::BITS as usize),
+            4 => record.raw[random.below(RAW_BYTES)] ^= 1 << random.below(8),
             _ => record.kind = make::kind(random),
         }
     }

@@ -139,7 +139,7 @@ pub fn marks(run: &mut Run) {
     }
 }
 
-/// Recordings of 65,536 bytes: noise, strings back to back, with and without damage.
+/// Recordings as long as the limit: noise, strings back to back, with and without damage.
 pub fn full(run: &mut Run) {
     for round in 0..30 * run.long {
         let noise = run.random.bytes(LIMIT / 8 + 1);
@@ -147,9 +147,9 @@ pub fn full(run: &mut Run) {
         run.list(&noise, LIMIT + 1, 100);
 
         let mut text = match round % 3 {
-            0 => strings(&mut run.random, 2800).concat(),
-            1 => make::string(&mut run.random, 1).repeat(4300),
-            _ => make::string(&mut run.random, 2).repeat(1500),
+            0 => strings(&mut run.random, LIMIT / 200).concat(),
+            1 => make::string(&mut run.random, 1).repeat(LIMIT / 125 + 1),
+            _ => make::string(&mut run.random, 2).repeat(LIMIT / 375 + 1),
         };
         for _ in 0..round % 2 * 60 {
             damage(&mut run.random, &mut text);
@@ -159,7 +159,7 @@ pub fn full(run: &mut Run) {
         list_and_read(run, &bytes, LIMIT, 300);
         let longer = [&bytes[..], &[0x5A]].concat();
         list_and_read(run, &longer, LIMIT, 20);
-        run.list(&longer, LIMIT + 1, 5000);
+        run.list(&longer, LIMIT + 1, LIMIT / 125 + 1);
         run.read(&longer, LIMIT + 1, 0);
     }
 }

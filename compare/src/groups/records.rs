@@ -3,7 +3,7 @@
 use crate::make::{self, SHAPES};
 use crate::plain::table::{self, Field};
 use crate::run::Run;
-use l1oc::Record;
+use l1oc::{Record, NUMBERS};
 
 /// Writes the record where it fits and where it does not, and scales its fields.
 pub fn write_and_scale(run: &mut Run, record: &Record) {
@@ -13,7 +13,7 @@ pub fn write_and_scale(run: &mut Run, record: &Record) {
     run.write(&bytes, count, fits, record);
     let close = count - run.random.below(125);
     run.write(&bytes, count, close, record);
-    let field = 10 + run.random.below(16);
+    let field = 10 + run.random.below(NUMBERS);
     run.scaled(record, field);
 }
 

@@ -4,7 +4,7 @@
 use crate::make;
 use crate::plain::{self, table, LIMIT};
 use crate::run::Run;
-use l1oc::Record;
+use l1oc::{Mark, Record, NUMBERS, RAW_BYTES};
 
 /// A recording of random bits that ends with the text at its bit count, which lies above the
 /// limit (1) and above the bytes (2) where asked.
@@ -94,17 +94,17 @@ fn spoil(run: &mut Run, record: &mut Record, holds: impl Fn(usize) -> bool) {
         record.numbers[0] = run.random.between(1, 3);
     }
     if holds(11) {
-        match run.random.below(2) == 0 && fields.len() < 16 {
-            true => record.numbers[15] = run.random.between(-1, 0) * 2 + 1,
+        match run.random.below(2) == 0 && fields.len() < NUMBERS {
+            true => record.numbers[NUMBERS - 1] = run.random.between(-1, 0) * 2 + 1,
             false => {
-                let bit = plain::raw_width(record.kind)..304;
+                let bit = plain::raw_width(record.kind)..8 * RAW_BYTES;
                 let bit = bit.start + run.random.below(bit.len());
                 record.raw[bit / 8] |= 128 >> (bit % 8);
             }
         }
     }
     if holds(10) {
-        let wrong: Vec<usize> = (0..16)
+        let wrong: Vec<usize> = (0..Mark::BITS as usize)
             .filter(|bit| *bit >= fields.len() || !fields[*bit].signed)
             .collect();
         record.minus |= 1 << run.random.pick(&wrong);
