@@ -1,12 +1,12 @@
-// The answers as the paper's numbers and values.
-use format::Accuracy;
+// Answers: their numbers and values in the paper, tests one after another, and the tests of a bit count and a place.
 use format::Answer;
-use format::DayCount;
-use format::Listed;
+use format::Limits;
+use format::Outcome;
 use format::Refusal;
-use format::Written;
 ghost use mathlib.Core.Path.{_≡_};
-ghost use Rattle.format.specs.Answers.{refusalCode, answerCode, listedCode, writtenCode, accuracyCode, dayCode};
+ghost use Prim.Native.Nat.{_^_, _<_};
+ghost use Rattle.format.specs.Answers.{refusalCode, answerCode, outcomeCode};
+ghost use Rattle.format.specs.Tests.{isPassed, _then_, countTests, placeTests};
 
 // An answer: 0 and the value asked for, or the number of a refusal and its value.
 #[repr(C)]
@@ -15,125 +15,99 @@ pub struct Code {
     pub value: u64,
 }
 
-// The paper's number of a refusal.
-pub fn refusal_number(refusal: Refusal) -> u32
-    ensures { λ r. ⌜ r ≡ refusalCode refusal .0 ⌝ }
-{
-    match refusal {
-        Refusal::TooLong => 1,
-        Refusal::BeyondBytes => 2,
-        Refusal::BeyondCount(_) => 3,
-        Refusal::NoMark(_) => 4,
-        Refusal::RunsOut(_) => 5,
-        Refusal::CheckFails(_) => 6,
-        Refusal::OutOfRange(_) => 7,
-        Refusal::OtherOrbit => 8,
-        Refusal::ListShort(_) => 9,
-        Refusal::MinusZero(_) => 10,
-        Refusal::NotZero => 11,
-    }
-}
-
-// Its value.
-pub fn refusal_value(refusal: Refusal) -> usize
-    ensures { λ r. ⌜ r ≡ refusalCode refusal .1 ⌝ }
-{
-    match refusal {
-        Refusal::TooLong => 0,
-        Refusal::BeyondBytes => 0,
-        Refusal::BeyondCount(place) => place,
-        Refusal::NoMark(place) => place,
-        Refusal::RunsOut(place) => place,
-        Refusal::CheckFails(place) => place,
-        Refusal::OutOfRange(field) => field,
-        Refusal::OtherOrbit => 10,
-        Refusal::ListShort(needed) => needed,
-        Refusal::MinusZero(bit) => bit,
-        Refusal::NotZero => 0,
-    }
-}
-
-// Both.
+// Number and value of a refusal.
 pub fn refusal_code(refusal: Refusal) -> Code
-    ensures { λ r. ⌜ (r .number ≡ refusalCode refusal .0) × (r .value ≡ refusalCode refusal .1) ⌝ }
+    ensures { λ r. ⌜ (r .number ≡ refusalCode refusal .0) × (r .value ≡ refusalCode refusal .1) × (r .number < 2 ^ 32) ⌝ }
+{
+    match refusal {
+        Refusal::TooLong => coded(1, 0),
+        Refusal::BeyondBytes => coded(2, 0),
+        Refusal::BeyondCount(place) => coded(3, place),
+        Refusal::NoMark(place) => coded(4, place),
+        Refusal::RunsOut(place) => coded(5, place),
+        Refusal::CheckFails(place) => coded(6, place),
+        Refusal::OutOfRange(field) => coded(7, field),
+        Refusal::OtherOrbit => coded(8, 10),
+        Refusal::ListShort(needed) => coded(9, needed),
+        Refusal::MinusZero(bit) => coded(10, bit),
+        Refusal::NotZero => coded(11, 0),
+    }
+}
+
+// A number and a value.
+pub fn coded(number: u64, value: usize) -> Code
+    ensures { λ r. ⌜ (r .number ≡ number) × (r .value ≡ value) ⌝ }
 {
     Code {
-        number: refusal_number(refusal) as u64,
-        value: refusal_value(refusal) as u64,
-    }
-}
-
-// The paper's number of an answer.
-pub fn answer_number(a: Answer) -> u32
-    ensures { λ r. ⌜ r ≡ answerCode a .0 ⌝ }
-{
-    match a {
-        Answer::Passed => 0,
-        Answer::Refused(refusal) => refusal_number(refusal),
+        number,
+        value: value as u64,
     }
 }
 
 // Number and value of what a test or a reading answers.
 pub fn answer_code(answer: Answer) -> Code
-    ensures { λ r. ⌜ (r .number ≡ answerCode answer .0) × (r .value ≡ answerCode answer .1) ⌝ }
+    ensures { λ r. ⌜ (r .number ≡ answerCode answer .0) × (r .value ≡ answerCode answer .1) × (r .number < 2 ^ 32) ⌝ }
 {
     match answer {
-        Answer::Passed => Code {
-            number: 0,
-            value: 0,
-        },
+        Answer::Passed => coded(0, 0),
         Answer::Refused(refusal) => refusal_code(refusal),
     }
 }
 
-// Of what listing answers.
-pub fn listed_code(answer: Listed) -> Code
-    ensures { λ r. ⌜ (r .number ≡ listedCode answer .0) × (r .value ≡ listedCode answer .1) ⌝ }
+// Number and value of what a function answers that gives a number.
+pub fn outcome_code(answer: Outcome) -> Code
+    ensures { λ r. ⌜ (r .number ≡ outcomeCode answer .0) × (r .value ≡ outcomeCode answer .1) ⌝ }
 {
     match answer {
-        Listed::Starts(count) => Code {
-            number: 0,
-            value: count as u64,
-        },
-        Listed::Refused(refusal) => refusal_code(refusal),
+        Outcome::Given(value) => coded(0, value),
+        Outcome::NotGiven(refusal) => refusal_code(refusal),
     }
 }
 
-// Of what writing answers.
-pub fn written_code(answer: Written) -> Code
-    ensures { λ r. ⌜ (r .number ≡ writtenCode answer .0) × (r .value ≡ writtenCode answer .1) ⌝ }
+// The number of what a test or a reading answers.
+pub fn answer_number(answer: Answer) -> u32
+    ensures { λ r. ⌜ r ≡ answerCode answer .0 ⌝ }
 {
-    match answer {
-        Written::Upto(place) => Code {
-            number: 0,
-            value: place as u64,
-        },
-        Written::Refused(refusal) => refusal_code(refusal),
+    answer_code(answer).number as u32
+}
+
+// Whether an answer is no refusal.
+pub fn is_passed(a: Answer) -> bool
+    ensures { λ r. ⌜ r ≡ isPassed a ⌝ }
+{
+    match a {
+        Answer::Passed => true,
+        Answer::Refused(_) => false,
     }
 }
 
-// Of what an accuracy factor answers.
-pub fn accuracy_code(answer: Accuracy) -> Code
-    ensures { λ r. ⌜ (r .number ≡ accuracyCode answer .0) × (r .value ≡ accuracyCode answer .1) ⌝ }
+// The first of two tests that refuses.
+pub fn first(a: Answer, b: Answer) -> Answer
+    ensures { λ r. ⌜ r ≡ (a then b) ⌝ }
 {
-    match answer {
-        Accuracy::Centimetres(length) => Code {
-            number: 0,
-            value: length as u64,
-        },
-        Accuracy::Refused(refusal) => refusal_code(refusal),
-    }
+    if is_passed(a) { b } else { a }
 }
 
-// Of what the day count answers.
-pub fn day_code(answer: DayCount) -> Code
-    ensures { λ r. ⌜ (r .number ≡ dayCode answer .0) × (r .value ≡ dayCode answer .1) ⌝ }
+// The tests 1, 2 of a bit count, of so many bytes.
+pub fn count_tests(bytes: usize, count: usize) -> Answer
+    ensures { λ r. ⌜ r ≡ countTests bytes count ⌝ }
 {
-    match answer {
-        DayCount::Days(days) => Code {
-            number: 0,
-            value: days as u64,
-        },
-        DayCount::Refused(refusal) => refusal_code(refusal),
+    if count > Limits::BITS {
+        return Answer::Refused(Refusal::TooLong);
     }
+    if (count + 7) / 8 > bytes {
+        return Answer::Refused(Refusal::BeyondBytes);
+    }
+    Answer::Passed
+}
+
+// The tests 1, 2, 3 of a bit count and a place, of so many bytes.
+pub fn place_tests(bytes: usize, count: usize, place: usize) -> Answer
+    ensures { λ r. ⌜ r ≡ placeTests bytes count place ⌝ }
+{
+    let counted = count_tests(bytes, count);
+    if place > count {
+        return first(counted, Answer::Refused(Refusal::BeyondCount(place)));
+    }
+    counted
 }

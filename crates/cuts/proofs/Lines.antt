@@ -7,13 +7,14 @@ use native.Mathlib.Omega.{arith}
 use lib.ListN.{length, length-append}
 use Rattle.format.specs.Answers.{answerCode}
 use Rattle.format.specs.Reading.{reading}
-use Rattle.text.specs.Text.{numeral, row, comma, newline, Wrote}
+use Rattle.text.specs.Text.{numeral, row, comma, newline, numberMost, Wrote}
 use Rattle.text.proofs.Numerals.{numeral-length, row-cons, row-length}
 use Rattle.text.proofs.Writing.{wrote-none, wrote-join, wrote-length}
-use Rattle.cuts.specs.Cuts.{countLine, cuts}
+use Rattle.cuts.specs.Cuts.{countLine, cuts, cutMost}
 
--- A number and the byte after it are at most eleven bytes.
-pub number-length : (n end : ℕ) {at next : ℕ} {before after : List ℕ} → Wrote (numeral n ++ (end ∷ [])) at before after next → next ≤ at + 11
+-- How far a number and the byte after it reach.
+pub number-length : (n end : ℕ) {at next : ℕ} {before after : List ℕ} → Wrote (numeral n ++ (end ∷ [])) at before after next
+    → next ≤ at + numberMost
 number-length n end w = omega (arith, w .placed, length-append (numeral n) (end ∷ []), numeral-length n)
 
 -- The count and reading's number are the line.
@@ -27,24 +28,25 @@ line-wrote bytes count {code} e v w h =
     rw (← e, row-cons count (code ∷ []), last) (wrote-join v w h)
 
 -- ---- what is written once the lines of the counts below `count` are
-pub record Begun (bytes before : List ℕ) (count : ℕ) (out : List ℕ) (at : ℕ) : Type 0 where
+pub record LinesSoFar (bytes before : List ℕ) (count : ℕ) (out : List ℕ) (at : ℕ) : Type 0 where
   pub wrote : Wrote (cuts bytes count) 0 before out at
-  pub few : at ≤ 22 * count
+  pub few : at ≤ cutMost * count
   pub same : length out ≡ length before
 
-cut-length : (bytes : List ℕ) (count : ℕ) → length (countLine bytes count) ≤ 22
+cut-length : (bytes : List ℕ) (count : ℕ) → length (countLine bytes count) ≤ cutMost
 unfolding countLine
 cut-length bytes count = row-length (count ∷ answerCode (reading bytes count 0 .answer) .0 ∷ []) .1
 
 module _ (bytes before : List ℕ) where
-  pub begun-none : Begun bytes before 0 before 0
+  pub lines-none : LinesSoFar bytes before 0 before 0
   unfolding cuts
-  begun-none = record { wrote = wrote-none 0 before; few = omega arith; same = refl }
+  lines-none = record { wrote = wrote-none 0 before; few = omega arith; same = refl }
 
-  pub begun-more : (count : ℕ) (out : List ℕ) (at : ℕ) (after : List ℕ) (next : ℕ) → Begun bytes before count out at
-      → Wrote (countLine bytes count) at out after next → 22 * (count + 1) ≤ length before → Begun bytes before (count + 1) after next
+  pub lines-more : {count at next : ℕ} {out after : List ℕ} → LinesSoFar bytes before count out at
+      → Wrote (countLine bytes count) at out after next → cutMost * (count + 1) ≤ length before
+      → LinesSoFar bytes before (count + 1) after next
   unfolding cuts
-  begun-more count out at after next b w h =
+  lines-more {count} b w h =
       let l = cut-length bytes count in
       record {
         wrote = rw (add-one count) (wrote-join (b .wrote) w (omega (arith, b .few, w .placed)));

@@ -4,13 +4,12 @@ use format::Record;
 use format::Value;
 ghost use mathlib.Core.Path.{_≡_};
 ghost use lib.ListN.{length};
-ghost use Rattle.bits.specs.Bits.{recorded};
-ghost use Rattle.format.specs.Answers.{listedCode, writtenCode, valueCode, accuracyCode, dayCode};
+ghost use Rattle.format.specs.Answers.{outcomeCode, valueCode};
 ghost use Rattle.format.specs.Demand3.{ListPromise};
-ghost use Rattle.format.specs.Listing.{starts, listAfter, listing};
+ghost use Rattle.format.specs.Listing.{listing};
 ghost use Rattle.format.specs.Reading.{reading};
 ghost use Rattle.format.specs.Values.{powerOf, countOf, IsScaled, scaling, accuracy, dayCount};
-ghost use Rattle.format.specs.Writing.{writing, bytesAfter, ReadsBack, WritesBack};
+ghost use Rattle.format.specs.Writing.{writing, ReadsBack, WritesBack, WritePromise};
 ghost use Rattle.l1oc.specs.Codes.{coded, readCoded, valueCoded};
 
 // What reading answers: 0 and 0 beside the record, or a refusal beside a blank one.
@@ -39,7 +38,7 @@ fn value_code(answer: Value) -> ValueCode
             value: 0,
             scaled: x,
         },
-        Value::Refused(refusal) => {
+        Value::NoValue(refusal) => {
             let code = answers::refusal_code(refusal);
             ValueCode {
                 number: code.number,
@@ -53,12 +52,12 @@ fn value_code(answer: Value) -> ValueCode
 // Lists the starts of the strings in the first `count` bits.
 #[no_mangle]
 pub extern "C" fn l1oc_list(bytes: &[u8], count: usize, list: &mut [u32]) -> Code
-    ensures { λ r. ⌜ r ≡ coded (listedCode (listing (now (bytes .entry)) count (length (now (list .entry))))) ⌝ }
-    ensures { λ _. ⌜ now (list .exit) ≡ listAfter (listing (now (bytes .entry)) count (length (now (list .entry)))) (now (list .entry)) (starts (recorded (now (bytes .entry)) count)) ⌝ }
-    ensures { λ _. ⌜ ListPromise (now (bytes .entry)) count (now (list .entry)) (listing (now (bytes .entry)) count (length (now (list .entry)))) (now (list .exit)) ⌝ }
+    ensures { λ r. ⌜ r ≡ coded (outcomeCode (listing (now (bytes .entry)) count (length (now (list .entry))))) ⌝ }
+    ensures { λ _. ⌜ ListPromise (now (bytes .entry)) count (now (list .entry))
+        (listing (now (bytes .entry)) count (length (now (list .entry)))) (now (list .exit)) ⌝ }
 {
     let answer = listing::list(bytes, count, list);
-    answers::listed_code(answer)
+    answers::outcome_code(answer)
 }
 
 // Reads the string at a place: the answer, beside the record or a blank one.
@@ -67,7 +66,7 @@ pub extern "C" fn l1oc_read(bytes: &[u8], count: usize, place: usize) -> ReadCod
     ensures { λ r. ⌜ r ≡ readCoded (reading (now (bytes .entry)) count place) ⌝ }
     ensures { λ r. ⌜ (r .number ≡ 0 → WritesBack (now (bytes .entry)) count place (r .content)) ⌝ }
 {
-    let found = codec::read(bytes, count, place);
+    let found = reading::read(bytes, count, place);
     let answer = found.answer;
     let content = found.content;
     let code = answers::answer_code(answer);
@@ -81,12 +80,13 @@ pub extern "C" fn l1oc_read(bytes: &[u8], count: usize, place: usize) -> ReadCod
 // Writes a record's string at a place, and answers the place after it. A refusal leaves every byte unchanged.
 #[no_mangle]
 pub extern "C" fn l1oc_write(bytes: &mut [u8], count: usize, place: usize, content: Record) -> Code
-    ensures { λ r. ⌜ r ≡ coded (writtenCode (writing (length (now (bytes .entry))) count place content)) ⌝ }
-    ensures { λ _. ⌜ now (bytes .exit) ≡ bytesAfter (writing (length (now (bytes .entry))) count place content) place content (now (bytes .entry)) ⌝ }
+    ensures { λ r. ⌜ r ≡ coded (outcomeCode (writing (length (now (bytes .entry))) count place content)) ⌝ }
+    ensures { λ _. ⌜ WritePromise (now (bytes .entry)) count place content (writing (length (now (bytes .entry))) count place content)
+        (now (bytes .exit)) ⌝ }
     ensures { λ r. ⌜ (r .number ≡ 0 → ReadsBack (now (bytes .exit)) count place content) ⌝ }
 {
-    let answer = codec::write(bytes, count, place, content);
-    answers::written_code(answer)
+    let answer = writing::write(bytes, count, place, content);
+    answers::outcome_code(answer)
 }
 
 // The value of a record's field by its number.
@@ -102,17 +102,17 @@ pub extern "C" fn l1oc_scaled(content: Record, field: usize) -> ValueCode
 // The centimetres of an accuracy factor.
 #[no_mangle]
 pub extern "C" fn l1oc_accuracy(factor: i64) -> Code
-    ensures { λ r. ⌜ r ≡ coded (accuracyCode (accuracy factor)) ⌝ }
+    ensures { λ r. ⌜ r ≡ coded (outcomeCode (accuracy factor)) ⌝ }
 {
     let answer = values::accuracy(factor);
-    answers::accuracy_code(answer)
+    answers::outcome_code(answer)
 }
 
 // The days from 1 January 1996 to day `nt` of the four-year interval `n4`.
 #[no_mangle]
 pub extern "C" fn l1oc_day_count(n4: i64, nt: i64) -> Code
-    ensures { λ r. ⌜ r ≡ coded (dayCode (dayCount n4 nt)) ⌝ }
+    ensures { λ r. ⌜ r ≡ coded (outcomeCode (dayCount n4 nt)) ⌝ }
 {
     let answer = values::day_count(n4, nt);
-    answers::day_code(answer)
+    answers::outcome_code(answer)
 }

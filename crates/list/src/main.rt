@@ -7,9 +7,9 @@ fn complain(text: &[u8]) {
 
 // Lists the recording on standard input.
 fn list_input() {
-    let mut rec = [0u8; 65537];
+    let mut rec = [0u8; report::BYTES];
     let n = io::read_full(0, &mut rec);
-    let mut out = [0u8; 324000];
+    let mut out = [0u8; report::REPORT];
     let m = report::report(&rec[0..n], &mut out);
     if !io::write_all(1, &out[0..m]) {
         complain(b"list: the output can't be written\n");

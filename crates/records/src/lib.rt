@@ -1,7 +1,7 @@
-// The table of the types' fields, and the tests of a record.
-pub mod rows;
-
+// The tests of a record: the ranges of its fields, its unused places, its minus-zero mark.
 use format::Answer;
+use format::Mark;
+use format::PLACES;
 use format::Record;
 use format::Refusal;
 ghost use mathlib.Core.Path.{_≡_};
@@ -11,27 +11,13 @@ ghost use lib.Signed.{leZ};
 ghost use Rattle.bits.specs.Bits.{odd};
 ghost use Rattle.format.specs.declared.Answer.the-variants.{Refused};
 ghost use Rattle.format.specs.declared.Refusal.the-variants.{OutOfRange, OtherOrbit, NotZero};
-ghost use Rattle.format.specs.Answers.{isPassed, when, _then_};
+ghost use Rattle.format.specs.Tests.{when};
 ghost use Rattle.format.specs.Records.{ranges, numbersOf, isZero, fieldTests, unused, stray, markBits, recordTests};
-ghost use Rattle.format.specs.Types.{places, placesOf, fieldsOf};
-ghost use Rattle.records.specs.Rows.{takes};
+ghost use Rattle.format.specs.Types.{markWidth, placesOf, fieldsOf};
+ghost use Rattle.records.specs.Takes.{takes};
 
-// Whether an answer is no refusal.
-pub fn is_passed(a: Answer) -> bool
-    ensures { λ r. ⌜ r ≡ isPassed a ⌝ }
-{
-    match a {
-        Answer::Passed => true,
-        Answer::Refused(_) => false,
-    }
-}
-
-// The first of two tests that refuses.
-pub fn first(a: Answer, b: Answer) -> Answer
-    ensures { λ r. ⌜ r ≡ (a then b) ⌝ }
-{
-    if is_passed(a) { b } else { a }
-}
+// The place of the orbit in a record of type 20: field 10.
+const ORBIT: usize = 0;
 
 // Whether a number is in a range.
 pub fn between(least: i64, v: i64, most: i64) -> bool
@@ -40,28 +26,27 @@ pub fn between(least: i64, v: i64, most: i64) -> bool
     if least <= v { v <= most } else { false }
 }
 
-// Whether a field takes a number: of width 0, a place that its type does not use, it takes any.
-fn in_range(width: u8, least: i64, most: i64, v: i64) -> bool
+// Whether a place takes a number: of width 0, one that its type does not use, it takes any.
+fn takes(width: u8, least: i64, most: i64, v: i64) -> bool
     ensures { λ r. ⌜ r ≡ takes width least most v ⌝ }
 {
     if width == 0 {
-        true
-    } else {
-        between(least, v, most)
+        return true;
     }
+    between(least, v, most)
 }
 
 // The first of fields 10 on that is out of range.
-fn number_ranges(kind: u8, numbers: [i64; 16]) -> Answer
+fn number_ranges(kind: u8, numbers: [i64; PLACES]) -> Answer
     ensures { λ a. ⌜ a ≡ ranges (placesOf kind) numbers 10 ⌝ }
 {
-    let row = rows::row_of(kind);
+    let row = types::row_of(kind);
     let widths = row.widths;
     let least = row.least;
     let most = row.most;
     let mut i: usize = 0;
-    while i < 16 {
-        if !in_range(widths[i], least[i], most[i], numbers[i]) {
+    while i < PLACES {
+        if !takes(widths[i], least[i], most[i], numbers[i]) {
             return Answer::Refused(Refusal::OutOfRange(10 + i));
         }
         i += 1;
@@ -116,8 +101,8 @@ pub fn field_tests(r: Record) -> Answer
 {
     let numbers = r.numbers;
     let ranges = all_ranges(r);
-    let orbit = orbit_test(r.kind, numbers[0]);
-    first(ranges, orbit)
+    let orbit = orbit_test(r.kind, numbers[ORBIT]);
+    answers::first(ranges, orbit)
 }
 
 // Whether a number that is not 0 is at a place that is not used, one of width 0.
@@ -128,13 +113,13 @@ fn misplaced(width: u8, v: i64) -> bool
 }
 
 // Whether a place that the type does not use is not 0.
-fn unused(kind: u8, numbers: [i64; 16]) -> bool
+fn unused(kind: u8, numbers: [i64; PLACES]) -> bool
     ensures { λ b. ⌜ b ≡ unused (placesOf kind) numbers ⌝ }
 {
-    let row = rows::row_of(kind);
+    let row = types::row_of(kind);
     let widths = row.widths;
     let mut i: usize = 0;
-    while i < 16 {
+    while i < PLACES {
         if misplaced(widths[i], numbers[i]) {
             return true;
         }
@@ -143,34 +128,34 @@ fn unused(kind: u8, numbers: [i64; 16]) -> bool
     false
 }
 
-// Whether a number may bear the mark.
+// Whether a number may bear the mark: a signed field's zero.
 fn bears(signed: bool, v: i64) -> bool
     ensures { λ b. ⌜ b ≡ signed && isZero v ⌝ }
 {
     if signed { v == 0 } else { false }
 }
 
-// Whether the lowest mark is on a number that may not bear it.
-fn strays(marks: u16, signed: bool, v: i64) -> bool
-    ensures { λ b. ⌜ b ≡ odd marks && not (signed && isZero v) ⌝ }
+// Whether the lowest bit of the mark is set where it may not be.
+fn strays(marks: Mark, may: bool) -> bool
+    ensures { λ b. ⌜ b ≡ odd marks && not may ⌝ }
 {
-    if marks % 2 == 1 {
-        !bears(signed, v)
-    } else {
-        false
-    }
+    if marks % 2 == 1 { !may } else { false }
 }
 
-// The lowest bit of the minus-zero mark on a number that is not a signed field's zero.
-fn stray(kind: u8, numbers: [i64; 16], minus: u16) -> Answer
-    ensures { λ a. ⌜ a ≡ stray (placesOf kind) numbers (markBits places minus) 0 ⌝ }
+// The lowest bit of the minus-zero mark that is not on a signed field's zero; past the last place there is no field.
+fn stray(kind: u8, numbers: [i64; PLACES], minus: Mark) -> Answer
+    ensures { λ a. ⌜ a ≡ stray (placesOf kind) numbers (markBits markWidth minus) 0 ⌝ }
 {
-    let row = rows::row_of(kind);
+    let row = types::row_of(kind);
     let signs = row.signed;
     let mut marks = minus;
     let mut i: usize = 0;
-    while i < 16 {
-        if strays(marks, signs[i], numbers[i]) {
+    while marks != 0 {
+        let mut may = false;
+        if i < PLACES {
+            may = bears(signs[i], numbers[i]);
+        }
+        if strays(marks, may) {
             return Answer::Refused(Refusal::MinusZero(i));
         }
         marks /= 2;
@@ -179,9 +164,9 @@ fn stray(kind: u8, numbers: [i64; 16], minus: u16) -> Answer
     Answer::Passed
 }
 
-// The same, at once where there is no mark.
-fn marks_test(kind: u8, numbers: [i64; 16], minus: u16) -> Answer
-    ensures { λ a. ⌜ a ≡ stray (placesOf kind) numbers (markBits places minus) 0 ⌝ }
+// The test of the minus-zero mark, which passes at once where no bit of it is set.
+fn marks_test(kind: u8, numbers: [i64; PLACES], minus: Mark) -> Answer
+    ensures { λ a. ⌜ a ≡ stray (placesOf kind) numbers (markBits markWidth minus) 0 ⌝ }
 {
     if minus == 0 {
         return Answer::Passed;
@@ -210,8 +195,8 @@ pub fn record_tests(r: Record) -> Answer
     let numbers = r.numbers;
     let raw = r.raw;
     let fields = field_tests(r);
-    let count = rows::raw_count(r.kind);
+    let count = types::raw_count(r.kind);
     let zeros = zero_test(unused(r.kind, numbers), bits::zero_from(&raw, count));
     let marks = marks_test(r.kind, numbers, r.minus);
-    first(fields, first(zeros, marks))
+    answers::first(fields, answers::first(zeros, marks))
 }

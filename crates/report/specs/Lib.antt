@@ -1,2 +1,3 @@
 pub mod Report
 pub mod Lines
+pub mod Sizes

@@ -2,10 +2,10 @@
 use mathlib.Core.Bool.{Bool, cond}
 use mathlib.Core.List.{List, [], _∷_, _++_}
 use Prim.Native.Nat.{ℕ, _*_}
-use lib.Dec.{ltb}
 use lib.ListN.{length}
 use Rattle.bits.specs.Bits.{number, recorded}
-use Rattle.format.specs.Answers.{answerCode, bitLimit}
+use Rattle.format.specs.Answers.{answerCode}
+use Rattle.format.specs.Tests.{bitLimit, above}
 use Rattle.format.specs.Listing.{starts}
 use Rattle.format.specs.Reading.{reading}
 use Rattle.format.specs.Strings.{stringBits, typeAt}
@@ -14,8 +14,8 @@ use Rattle.text.specs.Text.{row}
 -- "place,type,number,kp,a,omb,result" and a newline.
 abbrev pub header : List ℕ
 header =
-    112 ∷ 108 ∷ 97 ∷ 99 ∷ 101 ∷ 44 ∷ 116 ∷ 121 ∷ 112 ∷ 101 ∷ 44 ∷ 110 ∷ 117 ∷ 109 ∷ 98 ∷ 101 ∷ 114 ∷ 44 ∷ 107 ∷ 112 ∷ 44 ∷ 97 ∷ 44 ∷ 111 ∷ 109 ∷ 98 ∷ 44 ∷ 114
-    ∷ 101 ∷ 115 ∷ 117 ∷ 108 ∷ 116 ∷ 10 ∷ []
+    112 ∷ 108 ∷ 97 ∷ 99 ∷ 101 ∷ 44 ∷ 116 ∷ 121 ∷ 112 ∷ 101 ∷ 44 ∷ 110 ∷ 117 ∷ 109 ∷ 98 ∷ 101 ∷ 114 ∷ 44
+    ∷ 107 ∷ 112 ∷ 44 ∷ 97 ∷ 44 ∷ 111 ∷ 109 ∷ 98 ∷ 44 ∷ 114 ∷ 101 ∷ 115 ∷ 117 ∷ 108 ∷ 116 ∷ 10 ∷ []
 
 -- "refused,1" and a newline.
 abbrev pub refusedLine : List ℕ
@@ -38,6 +38,10 @@ unfoldable pub lines : List ℕ → List ℕ → List ℕ
 lines bytes [] = []
 lines bytes (p ∷ ps) = line bytes p ++ lines bytes ps
 
--- All that `list` prints for these bytes on its standard input: above the limit the refusal only, else the header and a line for each start that listing gives.
+-- The header, and a line for each start that listing gives.
+abbrev pub listed : List ℕ → List ℕ
+listed bytes = header ++ lines bytes (starts (allBits bytes))
+
+-- All that `list` prints for these bytes on its standard input: above the limit the refusal only.
 unfoldable pub report : List ℕ → List ℕ
-report bytes = cond (ltb bitLimit (8 * length bytes)) refusedLine (header ++ lines bytes (starts (allBits bytes)))
+report bytes = cond (above (8 * length bytes) bitLimit) refusedLine (listed bytes)

@@ -12,16 +12,16 @@ fn content(kind: u8, correction: u8, next: u8, time: u16) -> Record {
         correction,
         next,
         time,
-        numbers: [0i64; 16],
+        numbers: [0i64; format::PLACES],
         minus: 0,
-        raw: [0u8; 38],
+        raw: [0u8; format::RAW_BYTES],
     }
 }
 
 fn main() {
     let mut rec = [0u8; 79];
-    codec::write(&mut rec, 632, 0, content(0, 3, 1, 99));
-    codec::write(&mut rec, 632, 250, content(1, 3, 0, 100));
-    codec::write(&mut rec, 632, 375, content(0, 0, 0, 101));
+    writing::write(&mut rec, 632, 0, content(0, 3, 1, 99));
+    writing::write(&mut rec, 632, 250, content(1, 3, 0, 100));
+    writing::write(&mut rec, 632, 375, content(0, 0, 0, 101));
     io::write_all(1, &rec);
 }

@@ -9,7 +9,7 @@ use native.Mathlib.Omega.{arith}
 use lib.Dec.{ltb}
 use lib.ListN.{length, length-append}
 use borrow.Author.Tests.{lt-ltb, le-ltb}
-use Rattle.text.specs.Text.{digit, digits, numeral, endOf, row}
+use Rattle.text.specs.Text.{digit, digits, digitsMost, numeral, endOf, row, numberMost, rowNumbers, lineMost}
 
 -- ---- digits
 module _ (most n : ℕ) where
@@ -21,16 +21,17 @@ module _ (most n : ℕ) where
   unfolding digits
   digits-more h = simp (le-ltb n 10 h)
 
--- the tenth part of a number has one digit less
+-- The tenth part of a number has one digit less.
 pub rest-fits : (j n : ℕ) → 10 ≤ n → n < 10 ^ suc j → (0 < j) × (n / 10 < 10 ^ j)
 rest-fits zero n h g = absurd (omega arith)
 rest-fits (suc j) n h g = (omega arith, omega (arith, pow-suc 10 (suc j)))
 
--- room for more digits than a number has changes nothing
+-- Room for more digits than a number has changes nothing.
 digits-same : (m most n : ℕ) → m ≤ most → 0 < m → n < 10 ^ m → digits most n ≡ digits m n
 digits-same zero most n l z h = absurd (omega arith)
 digits-same (suc m) zero n l z h = absurd (omega arith)
-digits-same (suc m) (suc most) n l z h = by (decLt n 10) (λ g. let r = rest-fits m n g h in digits-same m most (n / 10) (omega arith) (r .0) (r .1))
+digits-same (suc m) (suc most) n l z h =
+    by (decLt n 10) (λ g. let r = rest-fits m n g h in digits-same m most (n / 10) (omega arith) (r .0) (r .1))
   where
     by : Dec (n < 10) → (10 ≤ n → digits most (n / 10) ≡ digits m (n / 10)) → digits (suc most) n ≡ digits (suc m) n
     by (yes g) e = digits-one most n g ∙ sym (digits-one m n g)
@@ -38,35 +39,35 @@ digits-same (suc m) (suc most) n l z h = by (decLt n 10) (λ g. let r = rest-fit
         let k : 10 ≤ n = omega arith in
         digits-more most n k ∙ ap (λ (ds : List ℕ). ds ++ (digit (n % 10) ∷ [])) (e k) ∙ sym (digits-more m n k)
 
--- ten digits are enough
-pub numeral-whole : (most n : ℕ) → 10 ≤ most → n < 10 ^ 10 → digits most n ≡ numeral n
+-- Ten digits are enough.
+pub numeral-whole : (most n : ℕ) → digitsMost ≤ most → n < 10 ^ digitsMost → digits most n ≡ numeral n
 unfolding numeral
-numeral-whole most n l h = digits-same 10 most n l (omega arith) h
+numeral-whole most n l h = digits-same digitsMost most n l (omega arith) h
 
 -- ---- lengths
 digits-length : (most n : ℕ) → (length (digits most n) ≤ most) × (0 < most → 0 < length (digits most n))
 unfolding digits
 digits-length zero n = (omega arith, λ h. h)
 digits-length (suc most) n =
-    by (ltb n 10) (omega (arith, length-append (digits most (n / 10)) (digit (n % 10) ∷ []), digits-length most (n / 10) .0))
-    (omega (arith, length-append (digits most (n / 10)) (digit (n % 10) ∷ [])))
+    let more = digits most (n / 10) ++ (digit (n % 10) ∷ []) in
+    let l = length-append (digits most (n / 10)) (digit (n % 10) ∷ []) in
+    by (ltb n 10) more (omega (arith, digits-length most (n / 10) .0)) (omega arith)
   where
-    by : (b : Bool) → length (digits most (n / 10) ++ (digit (n % 10) ∷ [])) ≤ suc most → 0 < length (digits most (n / 10) ++ (digit (n % 10) ∷ []))
-        → (length (cond b (digit n ∷ []) (digits most (n / 10) ++ (digit (n % 10) ∷ []))) ≤ suc most)
-        × (0 < suc most → 0 < length (cond b (digit n ∷ []) (digits most (n / 10) ++ (digit (n % 10) ∷ []))))
-    by true h g = (omega arith, λ _. omega arith)
-    by false h g = (h, λ _. g)
+    by : (b : Bool) (more : List ℕ) → length more ≤ suc most → 0 < length more
+        → (length (cond b (digit n ∷ []) more) ≤ suc most) × (0 < suc most → 0 < length (cond b (digit n ∷ []) more))
+    by true more h g = (omega arith, λ _. omega arith)
+    by false more h g = (h, λ _. g)
 
-pub numeral-length : (n : ℕ) → (0 < length (numeral n)) × (length (numeral n) ≤ 10)
+pub numeral-length : (n : ℕ) → (0 < length (numeral n)) × (length (numeral n) ≤ digitsMost)
 unfolding numeral
-numeral-length n = (digits-length 10 n .1 (omega arith), digits-length 10 n .0)
+numeral-length n = (digits-length digitsMost n .1 (omega arith), digits-length digitsMost n .0)
 
 -- ---- rows
 pub row-cons : (n : ℕ) (ns : List ℕ) → row (n ∷ ns) ≡ (numeral n ++ (endOf ns ∷ [])) ++ row ns
 unfolding row
 row-cons n ns = simp append-assoc
 
-pub row-length : (ns : List ℕ) → (length ns ≤ length (row ns)) × (length (row ns) ≤ 11 * length ns)
+pub row-length : (ns : List ℕ) → (length ns ≤ length (row ns)) × (length (row ns) ≤ numberMost * length ns)
 unfolding row
 row-length [] = (omega arith, omega arith)
 row-length (n ∷ ns) =
@@ -75,5 +76,5 @@ row-length (n ∷ ns) =
     let r = row-length ns in
     (omega arith, omega arith)
 
-pub row-seven : (ns : List ℕ) → length ns ≡ 7 → (0 < length (row ns)) × (length (row ns) ≤ 77)
-row-seven ns e = let r = row-length ns in (omega arith, omega arith)
+pub row-most : (ns : List ℕ) → length ns ≡ rowNumbers → (0 < length (row ns)) × (length (row ns) ≤ lineMost)
+row-most ns e = let r = row-length ns in (omega arith, omega arith)

@@ -3,7 +3,7 @@ use mathlib.Core.List.{[], _∷_}
 use mathlib.Core.Path.{_≡_, refl}
 use Rattle.text.specs.Text.{digits, numeral, row}
 
--- "0", "7", "10", the largest bit count, the largest u32
+-- "0", "7", "10", "524288", the largest u32
 zero-is : numeral 0 ≡ 48 ∷ []
 unfolding numeral digits
 zero-is = refl
@@ -16,9 +16,9 @@ ten : numeral 10 ≡ 49 ∷ 48 ∷ []
 unfolding numeral digits
 ten = refl
 
-limit : numeral 524288 ≡ 53 ∷ 50 ∷ 52 ∷ 50 ∷ 56 ∷ 56 ∷ []
+six-digits : numeral 524288 ≡ 53 ∷ 50 ∷ 52 ∷ 50 ∷ 56 ∷ 56 ∷ []
 unfolding numeral digits
-limit = refl
+six-digits = refl
 
 largest : numeral 4294967295 ≡ 52 ∷ 50 ∷ 57 ∷ 52 ∷ 57 ∷ 54 ∷ 55 ∷ 50 ∷ 57 ∷ 53 ∷ []
 unfolding numeral digits

@@ -2,7 +2,7 @@
 use mathlib.Core.Bool.{cond}
 use mathlib.Core.List.{List, [], _∷_, _++_}
 use mathlib.Core.Path.{_≡_}
-use Prim.Native.Nat.{ℕ, zero, suc, _+_, _/_, _%_}
+use Prim.Native.Nat.{ℕ, zero, suc, _+_, _*_, _/_, _%_}
 use lib.Dec.{ltb}
 use lib.ListN.{length}
 use Rattle.bits.specs.Bits.{put}
@@ -23,10 +23,14 @@ unfoldable pub digits : ℕ → ℕ → List ℕ
 digits zero n = []
 digits (suc most) n = cond (ltb n 10) (digit n ∷ []) (digits most (n / 10) ++ (digit (n % 10) ∷ []))
 
+-- The most digits of a u32, whose largest is 4294967295.
+abbrev pub digitsMost : ℕ
+digitsMost = 10
+
 -- The numeral of a number: its decimal digits, with no zeros in front. Ten digits are enough for every number below 10 ^ 10, and so for
--- every u32, whose largest is 4294967295 (`numeral-whole` of `proofs/Numerals.antt`).
+-- every u32 (`numeral-whole` of `proofs/Numerals.antt`).
 unfoldable pub numeral : ℕ → List ℕ
-numeral n = digits 10 n
+numeral n = digits digitsMost n
 
 -- What ends a number, by the numbers after it: a comma, and where there are none a newline.
 abbrev pub endOf : List ℕ → ℕ
@@ -37,6 +41,18 @@ endOf (n ∷ ns) = comma
 unfoldable pub row : List ℕ → List ℕ
 row [] = []
 row (n ∷ ns) = numeral n ++ (endOf ns ∷ row ns)
+
+-- The most bytes of a number and the byte after it.
+abbrev pub numberMost : ℕ
+numberMost = digitsMost + 1
+
+-- How many numbers a line of the program `list` has.
+abbrev pub rowNumbers : ℕ
+rowNumbers = 7
+
+-- The most bytes of a line of the program `list` (`row-most` of `proofs/Numerals.antt`).
+abbrev pub lineMost : ℕ
+lineMost = rowNumbers * numberMost
 
 -- A text was written at a place: `after` is the buffer `before` with the text there, and `next` is the place after it.
 pub record Wrote (text : List ℕ) (at : ℕ) (before after : List ℕ) (next : ℕ) : Type 0 where

@@ -2,7 +2,8 @@
 use mathlib.Core.Path.{_≡_, sym, ap, _∙_}
 use mathlib.Core.Bool.{Bool, true, false, cond}
 use Prim.Native.Nat.{ℕ, zero, suc, _+_, _-_, _*_, _/_, _^_, _≤_, _<_}
-use native.Mathlib.Nat.{lt-of-lt-of-le, lt-of-not-le, not-le-of-lt, mul-assoc, mul-right-comm, mul-le-mul-right, mul-div-cancel, zero-mul, zero-lt-suc}
+use native.Mathlib.Nat.{lt-of-lt-of-le, lt-of-not-le, not-le-of-lt, zero-lt-suc}
+use native.Mathlib.Nat.{mul-assoc, mul-right-comm, mul-le-mul-right, mul-div-cancel, zero-mul}
 use native.Mathlib.Omega.{arith}
 use lib.IntN.{ℤ, pos, negsuc, natAbs}
 use lib.Pow.{pow-add, pow-pos, pow-mono, shl-lt}
@@ -48,7 +49,8 @@ unfolding toBits
 value-units nan s a k v l = absurd v
 value-units (inf t) s a k v l = absurd v
 value-units (fin t m e) s a k v l =
-    ap (λ (b : Bool). unitBits b (m * up e * 2 ^ 1074 / down e)) (v .0) ∙ ap (unitBits s) (units-of m (up e) (down e) a k (down-pos e) (v .1) l)
+    ap (λ (b : Bool). unitBits b (m * up e * 2 ^ 1074 / down e)) (v .0)
+    ∙ ap (unitBits s) (units-of m (up e) (down e) a k (down-pos e) (v .1) l)
 
 units-digits : (s : Bool) (a k : ℕ) → 0 < a → a < 2 ^ 53 → k ≤ 1021 → unitBits s (a * 2 ^ (1074 - k)) ≡ digitBits s a k
 unfolding digitBits
@@ -70,7 +72,8 @@ zero-units : (n : ℕ) → n ≡ 0 → unitBits false n ≡ 0
 unfolding size
 zero-units n e = ap (unitBits false) e
 
-pub value-bits : (x : Float) (z : ℤ) (k : ℕ) → HasValue x (isNegative z) (natAbs z) (2 ^ k) → natAbs z < 2 ^ 53 → k ≤ 1021 → toBits binary64 x ≡ scaledBits z k
+pub value-bits : (x : Float) (z : ℤ) (k : ℕ) → HasValue x (isNegative z) (natAbs z) (2 ^ k) → natAbs z < 2 ^ 53 → k ≤ 1021
+    → toBits binary64 x ≡ scaledBits z k
 unfolding scaledBits
 value-bits x (pos zero) k v h l = value-units x false 0 k v (omega arith) ∙ zero-units (0 * 2 ^ (1074 - k)) (zero-mul (2 ^ (1074 - k)))
 value-bits x (pos (suc n)) k v h l = value-units x false (suc n) k v (omega arith) ∙ units-digits false (suc n) k (zero-lt-suc n) h l

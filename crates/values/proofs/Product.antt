@@ -117,4 +117,5 @@ module _ (z : ℤ) (k : ℕ) (y : Float) (h : natAbs z < 2 ^ 53) (l : k ≤ 1021
 
   pub product-is : mul binary64 (ofInt binary64 z) y ≡ ofBits binary64 (scaledBits z k)
   product-is =
-      sym (ofBits-toBits binary64 (mul binary64 (ofInt binary64 z) y) (mul-fits binary64 (ofInt binary64 z) y)) ∙ ap (ofBits binary64) (product-scaled .bits)
+      sym (ofBits-toBits binary64 (mul binary64 (ofInt binary64 z) y) (mul-fits binary64 (ofInt binary64 z) y))
+      ∙ ap (ofBits binary64) (product-scaled .bits)

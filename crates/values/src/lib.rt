@@ -1,16 +1,15 @@
 // Values in physical units: a field as an f64, the accuracy factor in centimetres, the day count.
-use format::Accuracy;
 use format::Answer;
-use format::DayCount;
+use format::Outcome;
+use format::PLACES;
 use format::Record;
 use format::Refusal;
 use format::Value;
 ghost use mathlib.Core.Path.{_≡_};
 ghost use Prim.Native.Nat.{_<_, _^_};
-ghost use lib.Ieee.{Float, binary64, ofBits};
+ghost use lib.Ieee.{binary64, ofBits};
 ghost use lib.IntN.{pos, natAbs};
-ghost use Rattle.format.specs.declared.Value.the-variants.{Number};
-ghost use Rattle.format.specs.Values.{powerOf, countOf, scaledBits, IsScaled, scaling, accuracy, dayCount};
+ghost use Rattle.format.specs.Values.{powerOf, scaledBits, IsScaled, ScalePromise, accuracy, dayCount};
 
 // Centimetres for the accuracy factors from -15 to 14.
 const CENTIMETRES: [usize; 30] = [
@@ -54,10 +53,10 @@ fn power_of(kind: u8, field: usize) -> u8
         return 0;
     }
     let i = field - 10;
-    if i >= 16 {
+    if i >= PLACES {
         return 0;
     }
-    let row = records::rows::row_of(kind);
+    let row = types::row_of(kind);
     let powers = row.powers;
     powers[i]
 }
@@ -80,17 +79,16 @@ fn scale(count: i64, k: u8) -> f64
 
 // The value of a record's field by its number.
 pub fn scaled(r: Record, field: usize) -> Value
-    ensures { λ v. ⌜ v ≡ scaling r field ⌝ }
-    ensures { λ v. ⌜ ((x : Float) → v ≡ Number x → IsScaled (countOf r field) (powerOf (r .kind) field) x) ⌝ }
+    ensures { λ v. ⌜ ScalePromise r field v ⌝ }
 {
     let numbers = r.numbers;
     let tests = records::record_tests(r);
     match tests {
-        Answer::Refused(x) => Value::Refused(x),
+        Answer::Refused(x) => Value::NoValue(x),
         Answer::Passed => {
             let k = power_of(r.kind, field);
             if k == 0 {
-                return Value::Refused(Refusal::OutOfRange(field));
+                return Value::NoValue(Refusal::OutOfRange(field));
             }
             let i = field - 10;
             Value::Number(scale(numbers[i], k))
@@ -99,30 +97,30 @@ pub fn scaled(r: Record, field: usize) -> Value
 }
 
 // The centimetres of an accuracy factor; 0 for 15, which is undefined.
-pub fn accuracy(factor: i64) -> Accuracy
+pub fn accuracy(factor: i64) -> Outcome
     ensures { λ a. ⌜ a ≡ accuracy factor ⌝ }
 {
     if !records::between(-15, factor, 15) {
-        return Accuracy::Refused(Refusal::OutOfRange(19));
+        return Outcome::NotGiven(Refusal::OutOfRange(19));
     }
     let i = (factor + 15) as usize;
     if i == 30 {
-        return Accuracy::Centimetres(0);
+        return Outcome::Given(0);
     }
-    Accuracy::Centimetres(CENTIMETRES[i])
+    Outcome::Given(CENTIMETRES[i])
 }
 
 // The days from 1 January 1996 to day `nt` of the four-year interval `n4`.
-pub fn day_count(n4: i64, nt: i64) -> DayCount
+pub fn day_count(n4: i64, nt: i64) -> Outcome
     ensures { λ d. ⌜ d ≡ dayCount n4 nt ⌝ }
 {
-    if !records::between(1, n4, records::rows::INTERVALS) {
-        return DayCount::Refused(Refusal::OutOfRange(10));
+    if !records::between(1, n4, types::rows::INTERVALS) {
+        return Outcome::NotGiven(Refusal::OutOfRange(10));
     }
-    if !records::between(1, nt, records::rows::INTERVAL_DAYS) {
-        return DayCount::Refused(Refusal::OutOfRange(11));
+    if !records::between(1, nt, types::rows::INTERVAL_DAYS) {
+        return Outcome::NotGiven(Refusal::OutOfRange(11));
     }
     let interval = n4 as usize;
     let day = nt as usize;
-    DayCount::Days(records::rows::INTERVAL_DAYS as usize * (interval - 1) + day - 1)
+    Outcome::Given(types::rows::INTERVAL_DAYS as usize * (interval - 1) + day - 1)
 }

@@ -1,4 +1,4 @@
--- Computed tests for the witnesses: the starts that the rule finds in a recording, and where the widest burst begins and ends. Assumes nothing.
+-- Computed tests: the starts that the rule finds in a recording, and where the widest burst begins and ends. Assumes nothing.
 use mathlib.Core.Path.{_≡_, refl, sym, ap, _∙_}
 use mathlib.Core.Bool.{Bool, true, false, true≢false, false≢true, and-eq-true-iff}
 use mathlib.Core.List.{List, [], _∷_}
@@ -11,9 +11,9 @@ use Rattle.cyclic.specs.Burst.{Differ, Burst}
 use Rattle.cyclic.specs.Poly.{addBit, plus}
 use Rattle.cyclic.proofs.Laws.{getD-plus}
 use Rattle.format.specs.Listing.{starts}
-use Rattle.format.specs.Standing.{front, standing}
+use Rattle.format.specs.Standing.{standing}
 use Rattle.format.proofs.Rule.{listFrom, list-all, list-end, list-none, list-here}
-use Rattle.format.proofs.Sure.{apart, apart-burst}
+use Rattle.format.proofs.Sure.{front, front-standing, apart, apart-burst}
 
 -- ---- listing
 -- The starts in the bits from a place on, after so many of them are passed over.
@@ -29,12 +29,13 @@ walk-here bits rest p (suc m) e w =
     ap (p ∷_) (w m ∙ ap (listFrom bits) (omega arith)) ∙ sym (list-here bits p (suc m) e (λ z. omega arith))
 
 walk-from : (bits rest : List Bool) (n p : ℕ) → drop p bits ≡ rest → walk rest n p ≡ listFrom bits (p + n)
-unfolding walk standing
+unfolding walk
 walk-from bits [] n p e = sym (list-end bits (p + n) (omega (arith, length-drop p bits, ap length e)))
 walk-from bits (a ∷ rest) (suc n) p e =
     walk-from bits rest n (p + 1) (sym (drop-drop 1 p bits) ∙ ap (drop 1) e) ∙ ap (listFrom bits) (omega arith)
 walk-from bits (a ∷ rest) zero p e =
-    walk-here bits rest p (front (a ∷ rest)) (ap front (sym e)) (λ n. walk-from bits rest n (p + 1) (sym (drop-drop 1 p bits) ∙ ap (drop 1) e))
+    walk-here bits rest p (front (a ∷ rest)) (ap front (sym e) ∙ front-standing bits p)
+    (λ n. walk-from bits rest n (p + 1) (sym (drop-drop 1 p bits) ∙ ap (drop 1) e))
     ∙ ap (listFrom bits) (omega arith)
 
 pub walked : (bits : List Bool) (xs : List ℕ) → walk bits 0 0 ≡ xs → starts bits ≡ xs

@@ -1,4 +1,5 @@
--- The recordings of `specs/Recordings` meet the premises of demand 3, and what follows of them. Every fact about bits is computed. Assumes nothing.
+-- The recordings of `specs/Recordings` meet the premises of demand 3, and what follows of them. Every fact about bits is computed.
+-- Assumes nothing.
 use mathlib.Core.Path.{_≡_, refl, sym, ap, _∙_, subst}
 use mathlib.Core.Bool.{Bool, true}
 use mathlib.Core.List.{List, [], _∷_}
@@ -10,14 +11,15 @@ use lib.ListN.{length}
 use Rattle.bits.specs.Bits.{number, recorded, cut}
 use Rattle.cyclic.specs.Burst.{Burst}
 use Rattle.cyclic.specs.Register.{remainder}
-use Rattle.format.specs.Demand3.{from, Clean, Across, InStep, Passes}
+use Rattle.format.specs.Demand3.{from, Clean, Across, InStep}
+use Rattle.format.specs.Tests.{when, _then_, Passes}
 use Rattle.format.specs.Listing.{starts}
-use Rattle.format.specs.Standing.{front, standing}
+use Rattle.format.specs.Standing.{checkPasses, stringTests, standing}
 use Rattle.format.specs.Strings.{mark, stringBits, typeAt, lengthOf, generatorOf, checkBits, Stands}
 use Rattle.format.proofs.Agree.{standing-stands}
 use Rattle.format.proofs.Damage.{damaged-none}
 use Rattle.format.proofs.Resync.{resync}
-use Rattle.format.proofs.Sure.{sure, sound, apart}
+use Rattle.format.proofs.Sure.{front, sure, sound, apart}
 use Rattle.witnesses.specs.Recordings.{across, farthest, farthestFirst, undamaged, damaged}
 use Rattle.witnesses.proofs.Tests.{walk, walked, widest-burst}
 
@@ -31,7 +33,7 @@ unfolding across recorded
 across-count = refl
 
 across-sure : sure (recorded across 953) 203 (328 ∷ 578 ∷ []) ≡ true
-unfolding across sure recorded front standing stringBits cut typeAt lengthOf generatorOf remainder
+unfolding across sure recorded front standing checkPasses stringTests when _then_ stringBits cut typeAt lengthOf generatorOf remainder
 across-sure = refl
 
 pub across-clean : Clean (Stands (recorded across 953)) 953 203 (328 ∷ 578 ∷ [])
@@ -47,7 +49,7 @@ pub across-starts : starts (recorded across 953) ≡ 61 ∷ 328 ∷ 578 ∷ []
 across-starts = walked (recorded across 953) (61 ∷ 328 ∷ 578 ∷ []) across-walk
 
 across-length : standing (recorded across 953) 61 ≡ 250
-unfolding across recorded front standing stringBits cut typeAt lengthOf generatorOf remainder
+unfolding across recorded front standing checkPasses stringTests when _then_ stringBits cut typeAt lengthOf generatorOf remainder
 across-length = refl
 
 pub across-lies : Across (Stands (recorded across 953)) (starts (recorded across 953)) 203
@@ -60,7 +62,7 @@ across-lies = record {
   past = omega arith;
 }
 
--- so the first start given at or past 203 is not 203
+-- The first start that listing gives at or past 203 is not 203.
 pub across-from : from 203 (starts (recorded across 953)) ≡ 328 ∷ 578 ∷ []
 unfolding from decLe
 across-from = rw across-starts refl
@@ -75,7 +77,7 @@ unfolding farthest recorded
 farthest-count = refl
 
 farthest-sure : sure (recorded farthest 936) 61 (311 ∷ 686 ∷ 811 ∷ []) ≡ true
-unfolding farthest sure recorded front standing stringBits cut typeAt lengthOf generatorOf remainder
+unfolding farthest sure recorded front standing checkPasses stringTests when _then_ stringBits cut typeAt lengthOf generatorOf remainder
 farthest-sure = refl
 
 farthest-sound : Clean (Stands (recorded farthest 936)) (length (recorded farthest 936)) 61 (311 ∷ 686 ∷ 811 ∷ [])
@@ -98,7 +100,7 @@ farthest-from = rw farthest-starts refl
 pub farthest-distance : farthestFirst ≡ 61 + 625
 farthest-distance = refl
 
--- demand 3, applied to the recording, gives this start
+-- Demand 3, applied to `farthest`, gives the start `farthestFirst`.
 pub farthest-step : InStep (Stands (recorded farthest 936)) 61 (311 ∷ 686 ∷ 811 ∷ []) (starts (recorded farthest 936))
 farthest-step = resync (recorded farthest 936) 61 (311 ∷ 686 ∷ 811 ∷ []) farthest-sound
 
@@ -116,8 +118,8 @@ was = recorded undamaged 755
 abbrev pub now : List Bool
 now = recorded damaged 755
 
--- The premises of the promise's clause `damage` for the string of `long` bits at `place`. A burst has changed it from its bit `first` to its bit
--- `last`, counted from 0: one bit wider and the clause says nothing.
+-- The premises of the promise's clause `damage` for the string of `long` bits at `place`. A burst has changed it from its bit `first` to
+-- its bit `last`, counted from 0: one bit wider and the clause says nothing.
 pub record Struck (place long first last : ℕ) : Type 0 where
   pub stood : Stands was place long
   pub inside : place + long ≤ 755
@@ -144,20 +146,23 @@ module _ (place long first last : ℕ) where
         same-length = l;
       }
 
-  -- Nothing stands there afterwards.
+  -- Nothing stands where a burst has struck.
   pub gone : Struck place long first last → (l : ℕ) → Stands now place l → ⊥
   gone s = damaged-none (s .stood) (s .burst) (s .same-length)
 
 pub struck-125 : Struck 5 125 7 22
-unfolding undamaged damaged recorded front standing stringBits cut typeAt lengthOf generatorOf remainder apart
+unfolding undamaged damaged recorded front standing checkPasses stringTests when _then_ stringBits cut typeAt lengthOf generatorOf
+    remainder apart
 struck-125 = struck 5 125 7 22 refl (omega arith) (omega arith) refl refl refl
 
 pub struck-250 : Struck 130 250 16 31
-unfolding undamaged damaged recorded front standing stringBits cut typeAt lengthOf generatorOf remainder apart
+unfolding undamaged damaged recorded front standing checkPasses stringTests when _then_ stringBits cut typeAt lengthOf generatorOf
+    remainder apart
 struck-250 = struck 130 250 16 31 refl (omega arith) (omega arith) refl refl refl
 
 pub struck-375 : Struck 380 375 351 374
-unfolding undamaged damaged recorded front standing stringBits cut typeAt lengthOf generatorOf remainder apart
+unfolding undamaged damaged recorded front standing checkPasses stringTests when _then_ stringBits cut typeAt lengthOf generatorOf
+    remainder apart
 struck-375 = struck 380 375 351 374 refl (omega arith) (omega arith) refl refl refl
 
 pub gone-125 : (l : ℕ) → Stands now 5 l → ⊥
@@ -169,7 +174,7 @@ gone-250 = gone 130 250 16 31 struck-250
 pub gone-375 : (l : ℕ) → Stands now 380 l → ⊥
 gone-375 = gone 380 375 351 374 struck-375
 
--- the first burst reaches into the mark, the second into the type
+-- The first burst reaches into the mark, the second into the type.
 pub mark-struck : stringBits now 5 1 12 ≡ mark → ⊥
 unfolding damaged recorded stringBits cut
 mark-struck = λ e. omega (arith, ap number e)

@@ -1,11 +1,11 @@
--- Recordings that meet the premises of demand 3, byte for byte; `proofs/Witnesses` shows it. A string in them has the mark, its type, random bits and
--- its check bits. Assumes nothing.
+-- Recordings that meet the premises of demand 3, byte for byte; `proofs/Witnesses` shows it. A string in them has the mark, its type,
+-- random bits and its check bits. Assumes nothing.
 use mathlib.Core.List.{List, [], _∷_}
 use Prim.Native.Nat.{ℕ}
 
--- 953 bits. 203 random bits, then strings of 125 bits at 203 (type 1), 250 at 328 (type 20) and 375 at 578 (type 2), to the end. Among the random bits
--- one more string begins: at 61, of type 10 and 250 bits, so it lies across 203 and ends inside the string at 203. The 16 bits before 203 were chosen so
--- that its check passes.
+-- 953 bits. 203 random bits, then strings of 125 bits at 203 (type 1), 250 at 328 (type 20) and 375 at 578 (type 2), to the end. Among
+-- the random bits one more string begins: at 61, of type 10 and 250 bits, so it lies across 203 and ends inside the string at 203. The 16
+-- bits before 203 were chosen so that its check passes.
 unfoldable pub across : List ℕ
 across =
     0x78 ∷ 0x4A ∷ 0x19 ∷ 0xD3 ∷ 0x68 ∷ 0x6D ∷ 0x55 ∷ 0x52 ∷ 0xF8 ∷ 0x95 ∷ 0xE5 ∷ 0xFD ∷ 0xE3 ∷ 0xBB ∷ 0x19 ∷ 0x3F
@@ -18,9 +18,9 @@ across =
     ∷ 0x79 ∷ 0xE2 ∷ 0xCE ∷ 0xAF ∷ 0xA2 ∷ 0x52 ∷ 0x0F ∷ 0x80
     ∷ []
 
--- 936 bits. 61 bits, then strings of 250 bits at 61 (type 10), 375 at 311 (type 2), 125 at 686 and 125 at 811 (type 1), to the end. One more string
--- begins 42 bits before 61: at 19, of type 2 and 375 bits, so it ends at 394, inside the string at 311. The 24 bits before 61 were chosen so that its
--- check passes.
+-- 936 bits. 61 bits, then strings of 250 bits at 61 (type 10), 375 at 311 (type 2), 125 at 686 and 125 at 811 (type 1), to the end. One
+-- more string begins 42 bits before 61: at 19, of type 2 and 375 bits, so it ends at 394, inside the string at 311. The 24 bits before 61
+-- were chosen so that its check passes.
 unfoldable pub farthest : List ℕ
 farthest =
     0xF0 ∷ 0xBC ∷ 0xAB ∷ 0xE2 ∷ 0x13 ∷ 0xF5 ∷ 0x0D ∷ 0xB2 ∷ 0xF8 ∷ 0x94 ∷ 0x6F ∷ 0x6B ∷ 0xEC ∷ 0xE6 ∷ 0xD8 ∷ 0xBD
@@ -33,7 +33,7 @@ farthest =
     ∷ 0x8E ∷ 0xDD ∷ 0x9E ∷ 0xF7 ∷ 0xEE
     ∷ []
 
--- The first start that the rule finds at or past 61 in it: 625 bits on.
+-- The first start that the rule finds at or past 61 in `farthest`: 625 bits on.
 abbrev pub farthestFirst : ℕ
 farthestFirst = 686
 
@@ -48,9 +48,9 @@ undamaged =
     ∷ 0x82 ∷ 0xD0 ∷ 0xA7 ∷ 0xC5 ∷ 0xFE ∷ 0xAD ∷ 0xC2 ∷ 0x56 ∷ 0x4C ∷ 0xAE ∷ 0xA7 ∷ 0xF5 ∷ 0xF5 ∷ 0x6C ∷ 0xA0
     ∷ []
 
--- The same with a burst in each string, as wide as its check bits are many. Bits in a string count from 1, and the first and the last named here are
--- changed. At 5: bits 8 to 23, so it reaches into the mark; the type's bits are as before. At 130: bits 17 to 32, so it reaches into the type, which
--- is 9 now. At 380: bits 352 to 375, where the check bits are.
+-- `undamaged` with a burst in each string, as wide as its check bits are many. Bits in a string count from 1, and the first and the last
+-- named here are changed. At 5: bits 8 to 23, so it reaches into the mark; the type's bits are as before. At 130: bits 17 to 32, so it
+-- reaches into the type, which is 9 now. At 380: bits 352 to 375, where the check bits are.
 unfoldable pub damaged : List ℕ
 damaged =
     0x62 ∷ 0xF5 ∷ 0x02 ∷ 0x85 ∷ 0x93 ∷ 0x73 ∷ 0x2E ∷ 0xB3 ∷ 0x96 ∷ 0x7B ∷ 0x9D ∷ 0xA0 ∷ 0x37 ∷ 0x35 ∷ 0x8C ∷ 0x5D

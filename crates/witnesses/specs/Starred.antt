@@ -11,7 +11,7 @@ use Rattle.bits.specs.Signed.{signedOf, isMinusZero}
 use Rattle.cyclic.specs.Generators.{generator16, generator24}
 use Rattle.cyclic.specs.Register.{check}
 use Rattle.format.specs.declared.Record.{Record}
-use Rattle.format.specs.Answers.{answerCode, listedCode, writtenCode, dayCode}
+use Rattle.format.specs.Answers.{answerCode, outcomeCode}
 use Rattle.format.specs.Listing.{listing}
 use Rattle.format.specs.Reading.{reading}
 use Rattle.format.specs.Records.{rawBytes, fieldTests}
@@ -35,13 +35,13 @@ pub data Example : Type 0 where
   daysIs : (n4 nt : ℤ) (number value : ℕ) → Example
 
 abbrev pub listingOf : List ℕ → ℕ → ℕ → ℕ × ℕ
-listingOf bytes count room = listedCode (listing bytes count room)
+listingOf bytes count room = outcomeCode (listing bytes count room)
 
 abbrev pub readingOf : List ℕ → ℕ → ℕ → ℕ × ℕ
 readingOf bytes count place = answerCode (reading bytes count place .answer)
 
 abbrev pub writingOf : Record → ℕ → ℕ → ℕ → ℕ × ℕ
-writingOf content bytes count place = writtenCode (writing bytes count place content)
+writingOf content bytes count place = outcomeCode (writing bytes count place content)
 
 -- A record of type 10 with these tb and OMB; the other unsigned fields are at their least, the signed ones 0.
 abbrev pub ephemeris : ℕ → ℕ → Record
@@ -57,7 +57,8 @@ ephemeris tb omb =
       next = 0;
       time = omb;
       numbers =
-          pos 1 ∷ pos 1 ∷ pos 0 ∷ pos 0 ∷ pos tb ∷ pos 1 ∷ pos 1 ∷ pos 0 ∷ pos 0 ∷ pos 0 ∷ pos 0 ∷ pos 0 ∷ pos 0 ∷ pos 0 ∷ pos 0 ∷ pos 0 ∷ [];
+          pos 1 ∷ pos 1 ∷ pos 0 ∷ pos 0 ∷ pos tb ∷ pos 1 ∷ pos 1 ∷ pos 0 ∷ pos 0 ∷ pos 0 ∷ pos 0 ∷ pos 0 ∷ pos 0 ∷ pos 0 ∷ pos 0 ∷ pos 0
+          ∷ [];
       minus = 0;
       raw = replicate rawBytes 0;
     }
@@ -72,9 +73,10 @@ Says (listingIs bytes count room number value) = (listingOf bytes count room .0 
 Says (testIs r number value) = (answerCode (fieldTests r) .0 ≡ number) × (answerCode (fieldTests r) .1 ≡ value)
 Says (readingIs bytes count place number value) = (readingOf bytes count place .0 ≡ number) × (readingOf bytes count place .1 ≡ value)
 Says (writingIs r bytes count place number value) = (writingOf r bytes count place .0 ≡ number) × (writingOf r bytes count place .1 ≡ value)
-Says (daysIs n4 nt number value) = (dayCode (dayCount n4 nt) .0 ≡ number) × (dayCode (dayCount n4 nt) .1 ≡ value)
+Says (daysIs n4 nt number value) = (outcomeCode (dayCount n4 nt) .0 ≡ number) × (outcomeCode (dayCount n4 nt) .1 ≡ value)
 
--- The rows, in the order of document 01, 1 to 11; 8 and 9 take four rows each, two for reading's test and two for writing, and 10 and 11 take two.
+-- The rows, in the order of document 01, 1 to 11; 8 and 9 take four rows each, two for reading's test and two for writing, and 10 and 11
+-- take two.
 abbrev pub rows : List Example
 rows =
     checkIs generator16 234 1 0x6F63
@@ -111,8 +113,9 @@ holds (signedIs p value minusZero) = sameInt (signedOf p) value && Bool·beq (is
 holds (listingIs bytes count room number value) = eqb (listingOf bytes count room .0) number && eqb (listingOf bytes count room .1) value
 holds (testIs r number value) = eqb (answerCode (fieldTests r) .0) number && eqb (answerCode (fieldTests r) .1) value
 holds (readingIs bytes count place number value) = eqb (readingOf bytes count place .0) number && eqb (readingOf bytes count place .1) value
-holds (writingIs r bytes count place number value) = eqb (writingOf r bytes count place .0) number && eqb (writingOf r bytes count place .1) value
-holds (daysIs n4 nt number value) = eqb (dayCode (dayCount n4 nt) .0) number && eqb (dayCode (dayCount n4 nt) .1) value
+holds (writingIs r bytes count place number value) =
+    eqb (writingOf r bytes count place .0) number && eqb (writingOf r bytes count place .1) value
+holds (daysIs n4 nt number value) = eqb (outcomeCode (dayCount n4 nt) .0) number && eqb (outcomeCode (dayCount n4 nt) .1) value
 
 abbrev pub allHold : List Example → Bool
 allHold [] = true

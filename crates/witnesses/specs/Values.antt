@@ -1,4 +1,4 @@
--- Fields as f64: the largest and the smallest count of the fields of 40 bits, 1, -1, 0 and minus zero, with the float's 64 bits. Assumes nothing.
+-- Fields as f64: both ends of the fields of 40 bits, 1, -1, 0 and minus zero, with the float's 64 bits. Assumes nothing.
 use mathlib.Core.List.{List, [], _∷_, map}
 use Prim.Native.Nat.{ℕ}
 use lib.IntN.{ℤ, pos, negsuc}

@@ -1,22 +1,21 @@
 -- `cuts::put_cuts`: the loop has written the lines of the counts below `count`. Assumes nothing.
-use mathlib.Core.Path.{_≡_, subst}
-use Prim.Native.Nat.{ℕ, _-_, _≤_}
+use mathlib.Core.Path.{_≡_}
+use Prim.Native.Nat.{_-_, _≤_}
 use native.Mathlib.Omega.{arith}
 use borrow.Author.Needs.{needs}
-use Rattle.text.specs.Text.{Wrote}
-use Rattle.cuts.specs.Cuts.{cuts}
-use Rattle.cuts.proofs.Lines.{Begun, begun-none, begun-more}
+use Rattle.cuts.specs.Cuts.{counts}
+use Rattle.cuts.proofs.Lines.{LinesSoFar, lines-none, lines-more}
 use Rattle.cuts.proofs.put_cuts.Statement.{statement}
 use Rattle.cuts.proofs.put_cuts.Tie as tie
 
 abbrev Inv-loop : tie.InvT-loop
-Inv-loop rec out₀ at₀ count₀ out at count = (count ≤ 251) × Begun rec out₀ count out at
+Inv-loop rec out₀ at₀ count₀ out at count = (count ≤ counts) × LinesSoFar rec out₀ count out at
 
 abbrev μ-loop : tie.MeasureT-loop
-μ-loop rec out₀ at₀ count₀ out at count = 251 - count
+μ-loop rec out₀ at₀ count₀ out at count = counts - count
 
 loop-holds : tie.Need-loop-holds Inv-loop μ-loop
-loop-holds c = (search needs, begun-none _ _)
+loop-holds c = (search needs, lines-none _ _)
 
 put-cut-requires : tie.Need-put-cut-requires Inv-loop μ-loop
 put-cut-requires c κs = let b = c .before .before .loop .inv .1 in (search needs, omega (arith, b .few, b .same))
@@ -30,8 +29,8 @@ loop-less c = search needs
 loop-again : tie.Need-loop-again Inv-loop μ-loop
 loop-again c =
     let w = c .before .before in
-    let l = w .before .before .before .loop in
-    (search needs, begun-more _ _ (l .count) (l .out) (l .at) _ _ (l .inv .1) (w .put-cut .ensures) (omega arith))
+    let h = w .before .before .before in
+    (search needs, lines-more _ _ (h .loop .inv .1) (w .put-cut .ensures) (omega arith))
 
 same-length : tie.Need-same-length Inv-loop μ-loop
 same-length c = c .before .loop .inv .1 .same
@@ -39,9 +38,8 @@ same-length c = c .before .loop .inv .1 .same
 returns : tie.Need-returns Inv-loop μ-loop
 returns c =
     let l = c .before .loop in
-    let a = c .before .before .before .before .args in
-    let e : l .count ≡ 251 = omega arith in
-    (omega (arith, l .inv .1 .few), subst (λ (k : ℕ). Wrote (cuts (a .rec .now) k) 0 (a .out .now) (l .out) (l .at)) e (l .inv .1 .wrote))
+    let e : l .count ≡ counts = omega arith in
+    (omega (arith, l .inv .1 .few), rw e at (l .inv .1 .wrote))
 
 pub put-cuts-spec : {M : Type 1} → statement M
 put-cuts-spec =

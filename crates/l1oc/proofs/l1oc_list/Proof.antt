@@ -7,8 +7,8 @@ use Rattle.l1oc.proofs.l1oc_list.Tie as tie
 list-requires : tie.Need-list-requires
 list-requires c κs = search needs
 
-listed-code-requires : tie.Need-listed-code-requires
-listed-code-requires c κs = search needs
+outcome-code-requires : tie.Need-outcome-code-requires
+outcome-code-requires c κs = search needs
 
 same-length : tie.Need-same-length
 same-length c = search needs
@@ -17,7 +17,7 @@ returns : tie.Need-returns
 returns c =
     let l = c .before .before .before in
     let a = l .before .before .before .before .args in
-    lists (a .bytes .now) (a .count) (a .list .now) _ _ (c .listed-code .result) (l .list .ensures) (c .listed-code .ensures)
+    lists (a .bytes .now) (a .count) (a .list .now) _ _ (c .outcome-code .result) (l .list .ensures) (c .outcome-code .ensures)
 
 pub l1oc-list-spec : {M : Type 1} → statement M
-l1oc-list-spec = tie.close (tie.spec list-requires listed-code-requires same-length returns)
+l1oc-list-spec = tie.close (tie.spec list-requires outcome-code-requires same-length returns)

@@ -14,7 +14,8 @@ returns : tie.Need-returns
 returns c =
     let f = c .before .before in
     let a = f .before .before .args in
-    reads (a .bytes .now) (a .count) (a .place) _ _ (f .read .ensures .0) (f .read .ensures .1) (c .answer-code .ensures)
+    let e = c .answer-code .ensures in
+    reads (a .bytes .now) (a .count) (a .place) _ (c .answer-code .result) (f .read .ensures) (e .0, e .1)
 
 pub l1oc-read-spec : {M : Type 1} → statement M
 l1oc-read-spec = tie.close (tie.spec read-requires answer-code-requires returns)

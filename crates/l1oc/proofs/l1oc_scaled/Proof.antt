@@ -13,8 +13,7 @@ value-code-requires c κs = search needs
 returns : tie.Need-returns
 returns c =
     let a = c .before .before .args in
-    let p = c .before .scaled .ensures in
-    scales (a .content) (a .field) _ (c .value-code .result) (p .0) (p .1) (c .value-code .ensures)
+    scales (a .content) (a .field) _ (c .value-code .result) (c .before .scaled .ensures) (c .value-code .ensures)
 
 pub l1oc-scaled-spec : {M : Type 1} → statement M
 l1oc-scaled-spec = tie.close (tie.spec scaled-requires value-code-requires returns)

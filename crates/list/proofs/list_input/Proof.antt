@@ -7,11 +7,14 @@ use lib.ListN.{length, length-take, length-replicate}
 use borrow.Author.Needs.{needs}
 use Rattle.text.specs.Text.{Wrote}
 use Rattle.text.proofs.Writing.{wrote-length}
+use Rattle.report.specs.Sizes.{reportMost}
 use Rattle.report.proofs.Found.{report-length}
 use Rattle.list.proofs.list_input.Statement.{statement}
 use Rattle.list.proofs.list_input.Tie as tie
 
-fits : {text before after : List ℕ} {next room : ℕ} → Wrote text 0 before after next → length text ≤ room → length before ≡ room → next ≤ length after
+-- What is written into a buffer with room for it ends within the buffer.
+fits : {text before after : List ℕ} {next room : ℕ} → Wrote text 0 before after next → length text ≤ room → length before ≡ room
+    → next ≤ length after
 fits w h l = omega (arith, w .placed, wrote-length w (omega (arith, w .placed)))
 
 slice-aggregate-read-full : tie.Need-slice-aggregate-read-full
@@ -42,7 +45,7 @@ part-write-all-start : tie.Need-part-write-all-start
 part-write-all-start c = search needs
 
 part-write-all-end : tie.Need-part-write-all-end
-part-write-all-end c = fits (c .before .before .report .ensures) (report-length _) (length-replicate {A = ℕ} 324000 0)
+part-write-all-end c = fits (c .before .before .report .ensures) (report-length _) (length-replicate {A = ℕ} reportMost 0)
 
 write-all-requires : tie.Need-write-all-requires
 write-all-requires c κs = search needs

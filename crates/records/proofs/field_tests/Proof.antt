@@ -5,7 +5,7 @@ use lib.ListN.{getD}
 use mir.Facts.{toZ-ofZ}
 use mir.Syntax.{w64}
 use borrow.Author.Needs.{needs}
-use Rattle.format.specs.Answers.{_then_}
+use Rattle.format.specs.Tests.{_then_}
 use Rattle.format.specs.Records.{fieldTests}
 use Rattle.records.proofs.field_tests.Statement.{statement}
 use Rattle.records.proofs.field_tests.Tie as tie

@@ -1,13 +1,12 @@
--- `records::marks_test`: no mark strays where there is none. Assumes nothing.
+-- `records::marks_test`: no bit strays where none is set. Assumes nothing.
 use mathlib.Core.Path.{sym}
 use borrow.Author.Needs.{needs}
-use Rattle.format.specs.Types.{places, placesOf}
-use Rattle.records.proofs.Tests.{stray-unmarked}
+use Rattle.records.proofs.Tests.{stray-done}
 use Rattle.records.proofs.marks_test.Statement.{statement}
 use Rattle.records.proofs.marks_test.Tie as tie
 
 returns : tie.Need-returns
-returns c = rw (c .if1 .taken) (sym (stray-unmarked (placesOf (c .before .args .kind)) _ places 0))
+returns c = sym (stray-done _ _ _ _ _ (c .if1 .taken))
 
 stray-requires : tie.Need-stray-requires
 stray-requires c κs = search needs

@@ -5,7 +5,7 @@ use Rattle.records.proofs.misplaced.Statement.{statement}
 use Rattle.records.proofs.misplaced.Tie as tie
 
 returns : tie.Need-returns
-returns c = simp (eq-eqb _ _ (c .if1 .taken), ← zero-seen (c .before .args .v) (c .before .fits .v))
+returns c = let s = c .before in simp (eq-eqb _ _ (c .if1 .taken), ← zero-seen (s .args .v) (s .fits .v))
 
 returns-2 : tie.Need-returns-2
 returns-2 c = simp (ne-eqb _ _ (c .if1 .left))

@@ -1,25 +1,81 @@
 -- `records::number_ranges`: the places from i on answer what all answer. Assumes nothing.
-use mathlib.Core.Path.{_≡_, refl, sym, _∙_}
-use Prim.Native.Nat.{_+_, _-_, _≤_, _<_}
+use mathlib.Core.Path.{_≡_, refl, _∙_}
+use mathlib.Core.Bool.{true, false}
+use mathlib.Core.List.{List}
+use Prim.Native.Nat.{ℕ, _+_, _-_, _≤_, _<_}
 use native.Mathlib.Omega.{arith}
-use lib.ListN.{length, drop}
+use lib.IntN.{ℤ, pos}
+use lib.ListN.{length, drop, getD}
 use mir.Facts.{toZ-ofZ}
 use mir.Syntax.{w64}
+use mir.Val.{toZ, ofZ}
 use borrow.Author.Needs.{needs}
 use borrow.Author.Tests.{not-true, not-false}
-use Rattle.format.proofs.Information.{length-information}
+use Rattle.format.specs.declared.Answer.the-variants.{Refused}
+use Rattle.format.specs.declared.Refusal.the-variants.{OutOfRange}
+use Rattle.format.specs.Fields.{Field}
 use Rattle.format.specs.Records.{ranges}
-use Rattle.format.specs.Types.{placesOf}
+use Rattle.format.specs.Types.{places, placesOf}
+use Rattle.types.specs.declared.rows.Row.{Row}
 use Rattle.records.proofs.Laws.{row-takes, row-refuses, ranges-end}
 use Rattle.records.proofs.number_ranges.Statement.{statement}
 use Rattle.records.proofs.number_ranges.Tie as tie
 
 abbrev Inv-loop : tie.InvT-loop
 Inv-loop kind numbers widths least most i₀ i =
-    (i ≤ 16) × (ranges (drop i (placesOf kind)) (drop i numbers) (10 + i) ≡ ranges (placesOf kind) numbers 10)
+    (i ≤ places) × (ranges (drop i (placesOf kind)) (drop i numbers) (10 + i) ≡ ranges (placesOf kind) numbers 10)
 
 abbrev μ-loop : tie.MeasureT-loop
-μ-loop kind numbers widths least most i₀ i = 16 - i
+μ-loop kind numbers widths least most i₀ i = places - i
+
+-- After the test of the number at i.
+module _ (c : tie.After-takes Inv-loop μ-loop) where
+  abbrev at-loop : tie.At-loop Inv-loop μ-loop
+  at-loop = c .before .before .before .before .before
+
+  abbrev at-row : tie.After-row-of Inv-loop μ-loop
+  at-row = at-loop .before .before .before .before
+
+  abbrev start : tie.Start Inv-loop μ-loop
+  start = at-row .before
+
+  abbrev row : Row
+  row = at-row .row-of .result
+
+  abbrev fields : List Field
+  fields = placesOf (start .args .kind)
+
+  abbrev i : ℕ
+  i = at-loop .loop .i
+
+  abbrev numbers : List ℤ
+  numbers = start .args .t2
+
+  below : i < places
+  below = search needs
+
+  long : length numbers ≡ places
+  long = search needs
+
+  -- the three numbers, as the machine has them
+  low : toZ w64 (ofZ w64 (getD (row .least) i (pos 0))) ≡ getD (row .least) i (pos 0)
+  low = toZ-ofZ {w = w64} (record { sfits = c .before .before .before .takes-arg .given })
+
+  high : toZ w64 (ofZ w64 (getD (row .most) i (pos 0))) ≡ getD (row .most) i (pos 0)
+  high = toZ-ofZ {w = w64} (record { sfits = c .before .before .takes-arg2 .given })
+
+  number : toZ w64 (ofZ w64 (getD numbers i (pos 0))) ≡ getD numbers i (pos 0)
+  number = toZ-ofZ {w = w64} (record { sfits = c .before .takes-arg3 .given })
+
+  -- what the test leaves to the places past i
+  refuses : c .takes .result ≡ false → Refused (OutOfRange (10 + i)) ≡ ranges fields numbers 10
+  refuses e = row-refuses _ i numbers (at-row .row-of .ensures) below long low high number (c .takes .ensures) e ∙ at-loop .loop .inv .1
+
+  goes-on : c .takes .result ≡ true
+      → ranges (drop (i + 1) fields) (drop (i + 1) numbers) (10 + (i + 1)) ≡ ranges fields numbers 10
+  goes-on e = row-takes _ i numbers (at-row .row-of .ensures) below long low high number (c .takes .ensures) e ∙ at-loop .loop .inv .1
+
+-- ---- what the code asks, in its order
 
 row-of-requires : tie.Need-row-of-requires Inv-loop μ-loop
 row-of-requires c κs = search needs
@@ -27,45 +83,35 @@ row-of-requires c κs = search needs
 loop-holds : tie.Need-loop-holds Inv-loop μ-loop
 loop-holds c = (search needs, refl)
 
-array-read-in-range : tie.Need-array-read-in-range Inv-loop μ-loop
-array-read-in-range c = search needs
+array-read-takes : tie.Need-array-read-takes Inv-loop μ-loop
+array-read-takes c = search needs
 
-mul-in-range : tie.Need-mul-in-range Inv-loop μ-loop
-mul-in-range c = search needs
+mul-takes : tie.Need-mul-takes Inv-loop μ-loop
+mul-takes c = search needs
 
-array-copy-out-in-range : tie.Need-array-copy-out-in-range Inv-loop μ-loop
-array-copy-out-in-range c = search needs
+array-copy-out-takes : tie.Need-array-copy-out-takes Inv-loop μ-loop
+array-copy-out-takes c = search needs
 
-mul-in-range-2 : tie.Need-mul-in-range-2 Inv-loop μ-loop
-mul-in-range-2 c = search needs
+mul-takes-2 : tie.Need-mul-takes-2 Inv-loop μ-loop
+mul-takes-2 c = search needs
 
-array-copy-out-in-range-2 : tie.Need-array-copy-out-in-range-2 Inv-loop μ-loop
-array-copy-out-in-range-2 c = search needs
+array-copy-out-takes-2 : tie.Need-array-copy-out-takes-2 Inv-loop μ-loop
+array-copy-out-takes-2 c = search needs
 
-mul-in-range-3 : tie.Need-mul-in-range-3 Inv-loop μ-loop
-mul-in-range-3 c = search needs
+mul-takes-3 : tie.Need-mul-takes-3 Inv-loop μ-loop
+mul-takes-3 c = search needs
 
-array-copy-out-in-range-3 : tie.Need-array-copy-out-in-range-3 Inv-loop μ-loop
-array-copy-out-in-range-3 c = search needs
+array-copy-out-takes-3 : tie.Need-array-copy-out-takes-3 Inv-loop μ-loop
+array-copy-out-takes-3 c = search needs
 
-in-range-requires : tie.Need-in-range-requires Inv-loop μ-loop
-in-range-requires c κs = search needs
+takes-requires : tie.Need-takes-requires Inv-loop μ-loop
+takes-requires c κs = search needs
 
 add-t26 : tie.Need-add-t26 Inv-loop μ-loop
 add-t26 c = search needs
 
 returns : tie.Need-returns Inv-loop μ-loop
-returns c =
-    let r = c .before in
-    let q = r .before .before .before .before .before in
-    let s = q .before .before .before .before .before in
-    let h : q .loop .i < 16 = search needs in
-    let l : length (s .args .t2) ≡ 16 = search needs in
-    let lo = toZ-ofZ {w = w64} (record { sfits = r .before .before .before .in-range-arg .given }) in
-    let hi = toZ-ofZ {w = w64} (record { sfits = r .before .before .in-range-arg2 .given }) in
-    let v = toZ-ofZ {w = w64} (record { sfits = r .before .in-range-arg3 .given }) in
-    let d = q .before .before .before .before .row-of .ensures in
-    row-refuses (s .args .kind) (q .loop .i) (s .args .t2) d h l lo hi v (r .in-range .ensures) (not-true _ (c .if1 .taken)) ∙ q .loop .inv .1
+returns c = refuses (c .before) (not-true _ (c .if1 .taken))
 
 add-i : tie.Need-add-i Inv-loop μ-loop
 add-i c = search needs
@@ -74,22 +120,10 @@ loop-less : tie.Need-loop-less Inv-loop μ-loop
 loop-less c = search needs
 
 loop-again : tie.Need-loop-again Inv-loop μ-loop
-loop-again c =
-    let r = c .before in
-    let q = r .before .before .before .before .before in
-    let s = q .before .before .before .before .before in
-    let h : q .loop .i < 16 = search needs in
-    let l : length (s .args .t2) ≡ 16 = search needs in
-    let lo = toZ-ofZ {w = w64} (record { sfits = r .before .before .before .in-range-arg .given }) in
-    let hi = toZ-ofZ {w = w64} (record { sfits = r .before .before .in-range-arg2 .given }) in
-    let v = toZ-ofZ {w = w64} (record { sfits = r .before .in-range-arg3 .given }) in
-    let d = q .before .before .before .before .row-of .ensures in
-    (omega arith, row-takes (s .args .kind) (q .loop .i) (s .args .t2) d h l lo hi v (r .in-range .ensures) (not-false _ (c .if1 .left)) ∙ q .loop .inv .1)
+loop-again c = (search needs, goes-on (c .before) (not-false _ (c .if1 .left)))
 
 returns-2 : tie.Need-returns-2 Inv-loop μ-loop
-returns-2 c =
-    let s = c .before .before .before .before .before .before in
-    sym (ranges-end (placesOf (s .args .kind)) (s .args .t2) _ (c .before .loop .i) (omega (arith, length-information (s .args .kind)))) ∙ c .before .loop .inv .1
+returns-2 c = let q = c .before in ranges-end _ (q .loop .i) _ _ (c .loop-test .left) ∙ q .loop .inv .1
 
 pub number-ranges-spec : {M : Type 1} → statement M
 number-ranges-spec =
@@ -99,14 +133,14 @@ number-ranges-spec =
     μ-loop
     row-of-requires
     loop-holds
-    array-read-in-range
-    mul-in-range
-    array-copy-out-in-range
-    mul-in-range-2
-    array-copy-out-in-range-2
-    mul-in-range-3
-    array-copy-out-in-range-3
-    in-range-requires
+    array-read-takes
+    mul-takes
+    array-copy-out-takes
+    mul-takes-2
+    array-copy-out-takes-2
+    mul-takes-3
+    array-copy-out-takes-3
+    takes-requires
     add-t26
     returns
     add-i

@@ -1,6 +1,6 @@
 -- `records::orbit_test`: by its two tests. Assumes nothing.
 use borrow.Author.Tests.{eq-eqb, ne-eqb}
-use Rattle.format.specs.Answers.{when}
+use Rattle.format.specs.Tests.{when}
 use Rattle.records.proofs.Laws.{zero-seen}
 use Rattle.records.proofs.orbit_test.Statement.{statement}
 use Rattle.records.proofs.orbit_test.Tie as tie

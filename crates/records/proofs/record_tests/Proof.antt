@@ -1,4 +1,4 @@
--- `records::record_tests`: 7, 8, 11 and 10 in their order, of the record's own places, raw bits and marks. Assumes nothing.
+-- `records::record_tests`: 7, 8, 11 and 10 in their order, of the record's own places, raw bits and mark. Assumes nothing.
 use mathlib.Core.Path.{_≡_, ap, ap₂, _∙_}
 use mathlib.Core.Bool.{Bool, not, _||_}
 use Prim.Native.Nat.{ℕ}
@@ -8,11 +8,37 @@ use borrow.Author.Needs.{needs}
 use Rattle.bits.specs.Bits.{unpack}
 use Rattle.bits.specs.Signed.{allZero}
 use Rattle.format.proofs.Information.{raw-few}
+use Rattle.format.specs.declared.Record.{Record}
 use Rattle.format.specs.declared.Refusal.the-variants.{NotZero}
-use Rattle.format.specs.Answers.{when, _then_}
-use Rattle.format.specs.Records.{overfilled, recordTests}
+use Rattle.format.specs.Tests.{when, _then_}
+use Rattle.format.specs.Records.{rawBytes, unused, overfilled, recordTests}
+use Rattle.format.specs.Types.{placesOf}
 use Rattle.records.proofs.record_tests.Statement.{statement}
 use Rattle.records.proofs.record_tests.Tie as tie
+
+-- After the count of raw bits.
+module _ (c : tie.After-raw-count) where
+  abbrev content : Record
+  content = c .before .before .before .before .args .r
+
+  long : length (content .raw) ≡ rawBytes
+  long = search needs
+
+-- After the test of places and raw bits that are not used.
+module _ (c : tie.After-zero-test) where
+  abbrev counted : tie.After-raw-count
+  counted = c .before .before .before .before
+
+  abbrev r : Record
+  r = content counted
+
+  zeros : c .zero-test .result ≡ when (unused (placesOf (r .kind)) (r .numbers) || overfilled r) NotZero
+  unfolding overfilled
+  zeros =
+      let clear = c .before .zero-from .ensures ∙ ap (λ (n : ℕ). allZero (drop n (unpack (r .raw)))) (counted .raw-count .ensures) in
+      c .zero-test .ensures ∙ ap₂ (λ (a b : Bool). when (a || not b) NotZero) (c .before .before .before .unused .ensures) clear
+
+-- ---- what the code asks, in its order
 
 field-tests-requires : tie.Need-field-tests-requires
 field-tests-requires c κs = search needs
@@ -28,9 +54,7 @@ slice-aggregate-zero-from c = search needs
 
 zero-from-requires : tie.Need-zero-from-requires
 zero-from-requires c κs =
-    let s = c .before .before .before .before .before .before in
-    let l : length (s .args .r .raw) ≡ 38 = search needs in
-    omega (arith, raw-few (s .args .r .kind), c .before .before .raw-count .ensures)
+    let h = c .before .before in omega (arith, long h, raw-few (content h .kind), h .raw-count .ensures)
 
 zero-test-requires : tie.Need-zero-test-requires
 zero-test-requires c κs = search needs
@@ -45,17 +69,12 @@ first-requires-2 : tie.Need-first-requires-2
 first-requires-2 c κs = search needs
 
 returns : tie.Need-returns
-unfolding recordTests overfilled
+unfolding recordTests
 returns c =
     let m = c .before .before in
     let z = m .before in
-    let f = z .before in
-    let u = f .before .before in
-    let s = u .before .before in
-    let raw = s .before .before .before .args .r .raw in
-    let clear = f .zero-from .ensures ∙ ap (λ (n : ℕ). allZero (drop n (unpack raw))) (u .before .raw-count .ensures) in
-    let zeros = z .zero-test .ensures ∙ ap₂ (λ (a b : Bool). when (a || not b) NotZero) (u .unused .ensures) clear in
-    c .first2 .ensures ∙ ap₂ _then_ (s .field-tests .ensures) (c .before .first .ensures ∙ ap₂ _then_ zeros (m .marks-test .ensures))
+    c .first2 .ensures
+    ∙ ap₂ _then_ (counted z .before .field-tests .ensures) (c .before .first .ensures ∙ ap₂ _then_ (zeros z) (m .marks-test .ensures))
 
 pub record-tests-spec : {M : Type 1} → statement M
 record-tests-spec =

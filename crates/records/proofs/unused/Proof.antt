@@ -1,23 +1,64 @@
 -- `records::unused`: the places from i on answer what all answer. Assumes nothing.
-use mathlib.Core.Path.{_≡_, refl, sym, _∙_}
-use Prim.Native.Nat.{_-_, _≤_, _<_}
-use native.Mathlib.Omega.{arith}
-use lib.ListN.{length, drop}
+use mathlib.Core.Path.{_≡_, refl, _∙_}
+use mathlib.Core.Bool.{true, false}
+use mathlib.Core.List.{List}
+use Prim.Native.Nat.{ℕ, _+_, _-_, _≤_, _<_}
+use lib.IntN.{ℤ, pos}
+use lib.ListN.{length, drop, getD}
 use mir.Facts.{toZ-ofZ}
 use mir.Syntax.{w64}
+use mir.Val.{toZ, ofZ}
 use borrow.Author.Needs.{needs}
-use Rattle.format.proofs.Information.{length-information}
+use Rattle.format.specs.Fields.{Field}
 use Rattle.format.specs.Records.{unused}
-use Rattle.format.specs.Types.{placesOf}
+use Rattle.format.specs.Types.{places, placesOf}
 use Rattle.records.proofs.Tests.{unused-next, unused-found, unused-end}
 use Rattle.records.proofs.unused.Statement.{statement}
 use Rattle.records.proofs.unused.Tie as tie
 
 abbrev Inv-loop : tie.InvT-loop
-Inv-loop kind numbers widths i₀ i = (i ≤ 16) × (unused (drop i (placesOf kind)) (drop i numbers) ≡ unused (placesOf kind) numbers)
+Inv-loop kind numbers widths i₀ i = (i ≤ places) × (unused (drop i (placesOf kind)) (drop i numbers) ≡ unused (placesOf kind) numbers)
 
 abbrev μ-loop : tie.MeasureT-loop
-μ-loop kind numbers widths i₀ i = 16 - i
+μ-loop kind numbers widths i₀ i = places - i
+
+-- After the test of the number at i.
+module _ (c : tie.After-misplaced Inv-loop μ-loop) where
+  abbrev at-loop : tie.At-loop Inv-loop μ-loop
+  at-loop = c .before .before .before
+
+  abbrev at-row : tie.After-row-of Inv-loop μ-loop
+  at-row = at-loop .before .before
+
+  abbrev start : tie.Start Inv-loop μ-loop
+  start = at-row .before
+
+  abbrev fields : List Field
+  fields = placesOf (start .args .kind)
+
+  abbrev i : ℕ
+  i = at-loop .loop .i
+
+  abbrev numbers : List ℤ
+  numbers = start .args .t2
+
+  below : i < places
+  below = search needs
+
+  long : length numbers ≡ places
+  long = search needs
+
+  number : toZ w64 (ofZ w64 (getD numbers i (pos 0))) ≡ getD numbers i (pos 0)
+  number = toZ-ofZ {w = w64} (record { sfits = c .before .misplaced-arg .given })
+
+  -- what the test leaves to the places past i
+  finds : c .misplaced .result ≡ true → true ≡ unused fields numbers
+  finds e = unused-found _ i numbers (at-row .row-of .ensures) below long number (c .misplaced .ensures) e ∙ at-loop .loop .inv .1
+
+  goes-on : c .misplaced .result ≡ false → unused (drop (i + 1) fields) (drop (i + 1) numbers) ≡ unused fields numbers
+  goes-on e = unused-next _ i numbers (at-row .row-of .ensures) below long number (c .misplaced .ensures) e ∙ at-loop .loop .inv .1
+
+-- ---- what the code asks, in its order
 
 row-of-requires : tie.Need-row-of-requires Inv-loop μ-loop
 row-of-requires c κs = search needs
@@ -38,15 +79,7 @@ misplaced-requires : tie.Need-misplaced-requires Inv-loop μ-loop
 misplaced-requires c κs = search needs
 
 returns : tie.Need-returns Inv-loop μ-loop
-returns c =
-    let r = c .before in
-    let q = r .before .before .before in
-    let s = q .before .before .before in
-    let h : q .loop .i < 16 = search needs in
-    let l : length (s .args .t2) ≡ 16 = search needs in
-    let v = toZ-ofZ {w = w64} (record { sfits = r .before .misplaced-arg .given }) in
-    let d = q .before .before .row-of .ensures in
-    unused-found (s .args .kind) (q .loop .i) (s .args .t2) d h l v (r .misplaced .ensures) (c .if1 .taken) ∙ q .loop .inv .1
+returns c = finds (c .before) (c .if1 .taken)
 
 add-i : tie.Need-add-i Inv-loop μ-loop
 add-i c = search needs
@@ -55,20 +88,10 @@ loop-less : tie.Need-loop-less Inv-loop μ-loop
 loop-less c = search needs
 
 loop-again : tie.Need-loop-again Inv-loop μ-loop
-loop-again c =
-    let r = c .before in
-    let q = r .before .before .before in
-    let s = q .before .before .before in
-    let h : q .loop .i < 16 = search needs in
-    let l : length (s .args .t2) ≡ 16 = search needs in
-    let v = toZ-ofZ {w = w64} (record { sfits = r .before .misplaced-arg .given }) in
-    let d = q .before .before .row-of .ensures in
-    (omega arith, unused-next (s .args .kind) (q .loop .i) (s .args .t2) d h l v (r .misplaced .ensures) (c .if1 .left) ∙ q .loop .inv .1)
+loop-again c = (search needs, goes-on (c .before) (c .if1 .left))
 
 returns-2 : tie.Need-returns-2 Inv-loop μ-loop
-returns-2 c =
-    let s = c .before .before .before .before in
-    sym (unused-end (placesOf (s .args .kind)) (s .args .t2) (c .before .loop .i) (omega (arith, length-information (s .args .kind)))) ∙ c .before .loop .inv .1
+returns-2 c = let q = c .before in unused-end _ (q .loop .i) _ (c .loop-test .left) ∙ q .loop .inv .1
 
 pub unused-spec : {M : Type 1} → statement M
 unused-spec =

@@ -1,5 +1,5 @@
 -- `records::zero_test`: by its two tests. Assumes nothing.
-use Rattle.format.specs.Answers.{when}
+use Rattle.format.specs.Tests.{when}
 use Rattle.records.proofs.zero_test.Statement.{statement}
 use Rattle.records.proofs.zero_test.Tie as tie
 

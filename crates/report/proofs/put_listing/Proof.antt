@@ -1,11 +1,51 @@
 -- `report::put_listing`: the listing is never refused, since the list is long enough. Assumes nothing.
+use mathlib.Core.List.{List}
 use mathlib.Core.Path.{refl}
-use native.Mathlib.Omega.{arith}
+use Prim.Native.Nat.{ℕ, _≤_}
+use lib.ListN.{length}
 use borrow.Author.Needs.{needs}
-use Rattle.text.proofs.Writing.{wrote-length}
-use Rattle.report.proofs.Found.{never-refused, found, wrote-listing}
+use Rattle.report.specs.Lines.{Within}
+use Rattle.report.specs.Sizes.{reportMost}
+use Rattle.report.proofs.Found.{Found, never-refused, found, lines-fit, wrote-listed}
 use Rattle.report.proofs.put_listing.Statement.{statement}
 use Rattle.report.proofs.put_listing.Tie as tie
+
+-- ---- what is known at three places of the code
+
+-- after `listing::list`
+module _ (c : tie.After-list) where
+  abbrev at-start : tie.Start
+  at-start = c .before .before .before .before
+
+  abbrev bytes : List ℕ
+  bytes = at-start .args .rec .now
+
+  abbrev list : List ℕ
+  list = c .list .last .1 .1 .0
+
+  short : Within bytes
+  short = at-start .pre .0
+
+  room : reportMost ≤ length (at-start .args .out .now)
+  room = at-start .pre .1
+
+-- where the listing gives a number of starts
+module _ (c : tie.After-known-told) where
+  abbrev at-list : tie.After-list
+  at-list = c .before .before .before .before
+
+  abbrev n : ℕ
+  n = c .before .listed .given .0 .0
+
+  known : Found (bytes at-list) (list at-list) n
+  known = found (bytes at-list) _ _ _ (at-list .list .ensures) (short at-list) refl n (c .before .listed .given .1)
+
+-- after the header is put
+module _ (c : tie.After-put-bytes) where
+  abbrev told : tie.After-known-told
+  told = c .before .before .before
+
+-- ---- what the code asks, in its order
 
 mul-list : tie.Need-mul-list
 mul-list c = search needs
@@ -25,8 +65,7 @@ enum-told c = search needs
 returns : tie.Need-returns
 returns c =
     let l = c .before .before .before in
-    let s = l .before .before .before .before in
-    absurd (never-refused (s .args .rec .now) _ _ _ (l .list .ensures) (s .pre .0) refl _ (c .enum-told .given .1))
+    absurd (never-refused (bytes l) _ _ _ (l .list .ensures) (short l) refl _ (c .enum-told .given .1))
 
 slice-aggregate-put-bytes : tie.Need-slice-aggregate-put-bytes
 slice-aggregate-put-bytes c = search needs
@@ -39,14 +78,10 @@ slice-aggregate-put-lines c = search needs
 
 put-lines-requires : tie.Need-put-lines-requires
 put-lines-requires c κs =
-    let v = c .before .before .before .before in
-    let k = v .before .before .before in
-    let l = k .before .before .before .before in
-    let s = l .before .before .before .before in
-    let f = found (s .args .rec .now) _ _ _ (l .list .ensures) (s .pre .0) refl _ (k .before .listed .given .1) in
-    let e = v .put-bytes .ensures .placed in
-    let m = wrote-length (v .put-bytes .ensures) (omega (arith, s .pre .1)) in
-    (s .pre .0, f .enough, f .inside, omega (arith, f .few-starts, s .pre .0, s .pre .1))
+    let h = c .before .before .before .before in
+    let k = known (told h) in
+    let l = at-list (told h) in
+    (short l, k .enough, k .inside, lines-fit k (short l) (room l) (h .put-bytes .ensures))
 
 same-length : tie.Need-same-length
 same-length c = search needs
@@ -54,12 +89,9 @@ same-length c = search needs
 returns-2 : tie.Need-returns-2
 returns-2 c =
     let w = c .before .before in
-    let v = w .before .before .before .before .before in
-    let k = v .before .before .before in
-    let l = k .before .before .before .before in
-    let s = l .before .before .before .before in
-    let f = found (s .args .rec .now) _ _ _ (l .list .ensures) (s .pre .0) refl _ (k .before .listed .given .1) in
-    wrote-listing (s .args .rec .now) _ _ _ (l .list .ensures) (s .pre .0) refl _ _ _ _ _ _ f (s .pre .1) (v .put-bytes .ensures) (w .put-lines .ensures)
+    let h = w .before .before .before .before .before in
+    let l = at-list (told h) in
+    wrote-listed (known (told h)) (short l) (room l) (h .put-bytes .ensures) (w .put-lines .ensures)
 
 pub put-listing-spec : {M : Type 1} → statement M
 put-listing-spec =

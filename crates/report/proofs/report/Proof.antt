@@ -1,9 +1,23 @@
 -- `report::report`: the limit, and then the refusal or the listing. Assumes nothing.
+use mathlib.Core.Path.{_≡_}
 use native.Mathlib.Omega.{arith}
 use borrow.Author.Needs.{needs}
+use Rattle.report.specs.Report.{refusedLine, listed, report}
 use Rattle.report.proofs.Printing.{report-refused, report-listed}
 use Rattle.report.proofs.report.Statement.{statement}
 use Rattle.report.proofs.report.Tie as tie
+
+-- above the limit
+module _ (c : tie.Then1) where
+  too-long : report (c .before .before .before .args .rec .now) ≡ refusedLine
+  too-long = report-refused (c .before .before .before .args .rec .now) (omega arith)
+
+-- within the limit
+module _ (c : tie.Else1) where
+  not-too-long : report (c .before .before .before .args .rec .now) ≡ listed (c .before .before .before .args .rec .now)
+  not-too-long = report-listed (c .before .before .before .args .rec .now) (omega arith)
+
+-- ---- what the code asks, in its order
 
 mul-if1 : tie.Need-mul-if1
 mul-if1 c = search needs
@@ -20,8 +34,7 @@ same-length c = search needs
 returns : tie.Need-returns
 returns c =
     let w = c .before .before in
-    let s = w .before .before .before .before .before .before in
-    rw (report-refused (s .args .rec .now) (omega arith)) (w .put-bytes .ensures)
+    rw (too-long (w .before .before .before)) (w .put-bytes .ensures)
 
 put-listing-requires : tie.Need-put-listing-requires
 put-listing-requires c κs = search needs
@@ -32,8 +45,7 @@ same-length-2 c = search needs
 returns-2 : tie.Need-returns-2
 returns-2 c =
     let w = c .before .before in
-    let s = w .before .before .before .before .before in
-    rw (report-listed (s .args .rec .now) (omega arith)) (w .put-listing .ensures)
+    rw (not-too-long (w .before .before)) (w .put-listing .ensures)
 
 pub report-spec : {M : Type 1} → statement M
 report-spec =

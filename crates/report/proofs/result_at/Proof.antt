@@ -16,7 +16,7 @@ answer-number-requires : tie.Need-answer-number-requires
 answer-number-requires c κs = search needs
 
 returns : tie.Need-returns
-returns c = c .answer-number .ensures ∙ ap (λ (r : Reading). answerCode (r .answer) .0) (c .before .read .ensures .0)
+returns c = c .answer-number .ensures ∙ ap (λ (r : Reading). answerCode (r .answer) .0) (c .before .read .ensures .answered)
 
 pub result-at-spec : {M : Type 1} → statement M
 result-at-spec = tie.close (tie.spec mul-read read-requires answer-number-requires returns)

@@ -1,6 +1,7 @@
 -- `text::put_bytes`: the loop has written the first i bytes. Assumes nothing.
+use mathlib.Core.List.{List}
 use mathlib.Core.Path.{_≡_}
-use Prim.Native.Nat.{_+_, _-_, _≤_}
+use Prim.Native.Nat.{ℕ, _+_, _-_, _≤_}
 use native.Mathlib.Omega.{arith}
 use lib.ListN.{length, length-set, take}
 use borrow.Author.Needs.{needs}
@@ -14,6 +15,19 @@ Inv-loop out₀ at bytes i₀ out i = (i ≤ length bytes) × (length out ≡ le
 
 abbrev μ-loop : tie.MeasureT-loop
 μ-loop out₀ at bytes i₀ out i = length bytes - i
+
+-- ---- what is known at the loop: the parameters
+module _ (c : tie.At-loop Inv-loop μ-loop) where
+  abbrev bytes : List ℕ
+  bytes = c .before .args .bytes .now
+
+  abbrev out : List ℕ
+  out = c .before .args .out .now
+
+  abbrev at : ℕ
+  at = c .before .args .at
+
+-- ---- what the code asks, in its order
 
 loop-holds : tie.Need-loop-holds Inv-loop μ-loop
 loop-holds c = (search needs, search needs, bytes-none (c .args .bytes .now) (c .args .out .now) (c .args .at))
@@ -35,9 +49,10 @@ loop-less c = search needs
 
 loop-again : tie.Need-loop-again Inv-loop μ-loop
 loop-again c =
-    let l = c .before .before .loop in
-    let s = c .before .before .before in
-    (search needs, simp length-set (l .inv .1), bytes-more (s .args .bytes .now) (s .args .out .now) (s .args .at) (l .i) (l .out) (l .inv .2) (omega arith) (s .pre))
+    let h = c .before .before in
+    let l = h .loop in
+    let more = bytes-more (bytes h) (out h) (at h) (l .i) (l .out) (l .inv .2) (omega arith) (h .before .pre) in
+    (search needs, simp length-set (l .inv .1), more)
 
 add-result : tie.Need-add-result Inv-loop μ-loop
 add-result c = search needs
@@ -47,9 +62,8 @@ same-length c = search needs
 
 returns : tie.Need-returns Inv-loop μ-loop
 returns c =
-    let l = c .before .loop in
-    let s = c .before .before in
-    bytes-all (s .args .bytes .now) (s .args .out .now) (s .args .at) (l .i) (l .out) (l .inv .2) (omega arith)
+    let h = c .before in
+    bytes-all (bytes h) (out h) (at h) (h .loop .i) (h .loop .out) (h .loop .inv .2) (omega arith)
 
 pub put-bytes-spec : {M : Type 1} → statement M
 put-bytes-spec =

@@ -1,11 +1,11 @@
 -- `text::put_number`: the loop has filled the places from i on. Assumes nothing.
-use mathlib.Core.List.{List}
-use mathlib.Core.Path.{subst}
+use mathlib.Core.List.{[], _∷_, _++_}
+use mathlib.Core.Path.{_≡_}
 use Prim.Native.Nat.{ℕ, _-_}
 use native.Mathlib.Omega.{arith}
-use lib.ListN.{length-set}
+use lib.ListN.{length-set, take, drop, set}
 use borrow.Author.Needs.{needs}
-use Rattle.text.specs.Text.{Wrote}
+use Rattle.text.specs.Text.{numeral, numberMost}
 use Rattle.text.proofs.Writing.{Filled, filled-end, filled-more, filled-all}
 use Rattle.text.proofs.put_number.Statement.{statement}
 use Rattle.text.proofs.put_number.Tie as tie
@@ -15,6 +15,29 @@ Inv-loop out at n end text₀ i₀ rest₀ text i rest = Filled n end text i res
 
 abbrev μ-loop : tie.MeasureT-loop
 μ-loop out at n end text₀ i₀ rest₀ text i rest = rest
+
+-- ---- what is known at the loop: the number and the byte after it
+module _ (c : tie.At-loop Inv-loop μ-loop) where
+  abbrev n : ℕ
+  n = c .before .before .args .n
+
+  abbrev end : ℕ
+  end = c .before .before .args .end
+
+-- after the last digit: the array from it on is the text
+module _ (c : tie.After-digit2 Inv-loop μ-loop) where
+  abbrev at-loop : tie.At-loop Inv-loop μ-loop
+  at-loop = c .before .before
+
+  abbrev i : ℕ
+  i = at-loop .loop .i - 1
+
+  whole : take (numberMost - i) (drop i (set (at-loop .loop .text) i (c .digit2 .result))) ≡ numeral (n at-loop) ++ (end at-loop ∷ [])
+  whole =
+      let l = at-loop .loop in
+      filled-all (n at-loop) (end at-loop) (l .text) (l .i) (l .rest) _ (l .inv) i (omega arith) (omega arith) (c .digit2 .ensures)
+
+-- ---- what the code asks, in its order
 
 array-write-text : tie.Need-array-write-text Inv-loop μ-loop
 array-write-text c = search needs
@@ -36,9 +59,9 @@ loop-less c = search needs
 
 loop-again : tie.Need-loop-again Inv-loop μ-loop
 loop-again c =
-    let l = c .before .before .loop in
-    let a = c .before .before .before .before .args in
-    filled-more (a .n) (a .end) (l .text) (l .i) (l .rest) _ (l .inv) (l .i - 1) (omega arith) (omega arith) (c .digit .ensures)
+    let h = c .before .before in
+    let l = h .loop in
+    filled-more (n h) (end h) (l .text) (l .i) (l .rest) _ (l .inv) (l .i - 1) (omega arith) (omega arith) (c .digit .ensures)
 
 sub-i-2 : tie.Need-sub-i-2 Inv-loop μ-loop
 sub-i-2 c = search needs
@@ -66,14 +89,9 @@ same-length c = search needs
 
 returns : tie.Need-returns Inv-loop μ-loop
 returns c =
-    let d = c .before .before .before .before .before .before in
-    let l = d .before .before .loop in
-    let s = d .before .before .before .before in
-    let a = s .args in
-    let w = c .before .before .put-bytes in
-    subst (λ (t : List ℕ). Wrote t (a .at) (a .out .now) (w .last .0) (w .result))
-    (filled-all (a .n) (a .end) (l .text) (l .i) (l .rest) _ (l .inv) (l .i - 1) (omega arith) (omega arith) (d .digit2 .ensures))
-    (w .ensures)
+    let w = c .before .before in
+    let d = w .before .before .before .before in
+    rw (whole d) at (w .put-bytes .ensures)
 
 pub put-number-spec : {M : Type 1} → statement M
 put-number-spec =

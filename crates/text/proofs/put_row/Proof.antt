@@ -1,21 +1,37 @@
 -- `text::put_row`: the loop has written the first i numbers of the row. Assumes nothing.
+use mathlib.Core.List.{List}
 use mathlib.Core.Path.{_≡_}
-use Prim.Native.Nat.{_-_, _≤_}
+use Prim.Native.Nat.{ℕ, _-_, _≤_}
 use native.Mathlib.Omega.{arith}
 use lib.ListN.{length}
 use borrow.Author.Needs.{needs}
-use Rattle.text.proofs.Writing.{Begun, begun-none, begun-more, begun-all}
+use Rattle.text.specs.Text.{rowNumbers}
+use Rattle.text.proofs.Writing.{RowSoFar, row-none, row-more, row-all}
 use Rattle.text.proofs.put_row.Statement.{statement}
 use Rattle.text.proofs.put_row.Tie as tie
 
 abbrev Inv-loop : tie.InvT-loop
-Inv-loop out₀ at numbers place₀ i₀ out place i = (i ≤ 7) × (length out ≡ length out₀) × Begun numbers out₀ at i out place
+Inv-loop out₀ at numbers place₀ i₀ out place i =
+    (i ≤ rowNumbers) × (length out ≡ length out₀) × RowSoFar numbers out₀ at i out place
 
 abbrev μ-loop : tie.MeasureT-loop
-μ-loop out₀ at numbers place₀ i₀ out place i = 7 - i
+μ-loop out₀ at numbers place₀ i₀ out place i = rowNumbers - i
+
+-- ---- what is known at the loop
+module _ (c : tie.At-loop Inv-loop μ-loop) where
+  abbrev at-start : tie.Start Inv-loop μ-loop
+  at-start = c .before .before
+
+  abbrev numbers : List ℕ
+  numbers = at-start .args .t3
+
+  as-many : length numbers ≡ rowNumbers
+  as-many = search needs
+
+-- ---- what the code asks, in its order
 
 loop-holds : tie.Need-loop-holds Inv-loop μ-loop
-loop-holds c = (search needs, search needs, begun-none (c .before .args .t3) (c .before .args .out .now) (c .before .args .at))
+loop-holds c = (search needs, search needs, row-none (c .before .args .t3) (c .before .args .out .now) (c .before .args .at))
 
 mul-put-number : tie.Need-mul-put-number Inv-loop μ-loop
 mul-put-number c = search needs
@@ -38,25 +54,19 @@ loop-less c = search needs
 loop-again : tie.Need-loop-again Inv-loop μ-loop
 loop-again c =
     let w = c .before .before in
-    let l = w .before .before .before .before .loop in
-    let s = w .before .before .before .before .before .before in
-    let a = s .args in
-    let seven : length (a .t3) ≡ 7 = search needs in
-    let b = l .inv .2 in (
-      search needs,
-      search needs,
-      begun-more (a .t3) (a .out .now) (a .at) (l .i) _ (l .place) _ (l .out) _ b seven (omega arith) (w .before .end-after .ensures) (w .put-number .ensures) (s .pre),
-    )
+    let e = w .before in
+    let h = e .before .before .before in
+    let b = h .loop .inv .2 in
+    let more = row-more (numbers h) _ _ b (as-many h) (omega arith) (e .end-after .ensures) (w .put-number .ensures) (at-start h .pre) in
+    (search needs, search needs, more)
 
 same-length : tie.Need-same-length Inv-loop μ-loop
 same-length c = search needs
 
 returns : tie.Need-returns Inv-loop μ-loop
 returns c =
-    let l = c .before .loop in
-    let a = c .before .before .before .args in
-    let seven : length (a .t3) ≡ 7 = search needs in
-    begun-all (a .t3) (a .out .now) (a .at) (l .i) (l .place) (l .out) (l .inv .2) (omega arith)
+    let h = c .before in
+    row-all (numbers h) _ _ (h .loop .inv .2) (omega (arith, as-many h))
 
 pub put-row-spec : {M : Type 1} → statement M
 put-row-spec =

@@ -13,13 +13,11 @@ use mir.Syntax.{w64}
 use mir.Val.{SFits, toZ, ofZ}
 use borrow.Author.Needs.{needs}
 use borrow.Author.Tests.{not-true, not-false, leb-true, le-ltb}
-use Rattle.format.specs.declared.Accuracy.the-variants.{Centimetres, Refused}
+use Rattle.format.specs.declared.Outcome.the-variants.{Given, NotGiven}
 use Rattle.format.specs.declared.Refusal.the-variants.{OutOfRange}
 use Rattle.format.specs.Fields.{inRange}
+use Rattle.format.specs.Records.{ranges}
 use Rattle.format.specs.Values.{centimetres, aboveLeast, accuracy}
-use Rattle.records.proofs.between.Reads as between-reads
-use Rattle.values.proofs.accuracy.Lts as lts
-use Rattle.values.proofs.accuracy.Reads as reads
 use Rattle.values.proofs.accuracy.Statement.{statement}
 use Rattle.values.proofs.accuracy.Tie as tie
 
@@ -27,12 +25,12 @@ use Rattle.values.proofs.accuracy.Tie as tie
 abbrev isFactor : ℤ → Bool
 isFactor f = leZ (negsuc 14) f && leZ f (pos 15)
 
-no-factor : (f : ℤ) → isFactor f ≡ false → Refused (OutOfRange 19) ≡ accuracy f
-unfolding accuracy inRange
+no-factor : (f : ℤ) → isFactor f ≡ false → NotGiven (OutOfRange 19) ≡ accuracy f
+unfolding accuracy ranges inRange
 no-factor f e = rw e
 
-in-table : (f : ℤ) → isFactor f ≡ true → Centimetres (getD centimetres (aboveLeast f) 0) ≡ accuracy f
-unfolding accuracy inRange
+in-table : (f : ℤ) → isFactor f ≡ true → Given (getD centimetres (aboveLeast f) 0) ≡ accuracy f
+unfolding accuracy ranges inRange
 in-table f e = rw e
 
 -- a factor plus 15 is from 0 to 30
@@ -54,12 +52,14 @@ returns c =
     no-factor (s .args .factor) (sym t ∙ not-true _ (c .if1 .taken))
 
 -- what the test leaves
-module _ (c : lts.Else1 (between-reads.Asked, between-reads.Learnt) reads.Pre reads.Post) where
+module _ (c : tie.Else1) where
   abbrev factor : ℤ
   factor = c .before .before .args .factor
 
   passed : isFactor factor ≡ true
-  passed = let t = simp (toZ-ofZ {w = w64} (c .before .before .fits .factor)) at (c .before .between .ensures) in sym t ∙ not-false _ (c .if1 .left)
+  passed =
+      let t = simp (toZ-ofZ {w = w64} (c .before .before .fits .factor)) at (c .before .between .ensures) in
+      sym t ∙ not-false _ (c .if1 .left)
 
   -- the sum, and the sum as the machine reads it back
   sum : toZ w64 (ofZ w64 factor) +ℤ pos 15 ≡ pos (aboveLeast factor)
@@ -81,7 +81,7 @@ cast-i : tie.Need-cast-i
 cast-i c = rw (sum-back c) (tt, record { fits = lt-of-lt-of-le (few c) (lit≤ tt) })
 
 -- the place in the table
-place : (c : lts.Else1 (between-reads.Asked, between-reads.Learnt) reads.Pre reads.Post)
+place : (c : tie.Else1)
     → natAbs (toZ w64 (ofZ w64 (toZ w64 (ofZ w64 (factor c)) +ℤ pos 15))) ≡ aboveLeast (factor c)
 place c = ap natAbs (sum-back c)
 
@@ -89,7 +89,7 @@ returns-2 : tie.Need-returns-2
 returns-2 c =
     let p = c .before in
     let e : aboveLeast (factor p) ≡ 30 = sym (place p) ∙ c .if2 .taken in
-    ap (λ (n : ℕ). Centimetres (getD centimetres n 0)) (sym e) ∙ in-table (factor p) (passed p)
+    ap (λ (n : ℕ). Given (getD centimetres n 0)) (sym e) ∙ in-table (factor p) (passed p)
 
 mul-t8 : tie.Need-mul-t8
 mul-t8 c = record { fits = omega (arith, place (c .before), few (c .before)) }
@@ -98,7 +98,7 @@ array-read-t11 : tie.Need-array-read-t11
 array-read-t11 c = let n = c .if2 .left in omega (arith, place (c .before), few (c .before))
 
 returns-3 : tie.Need-returns-3
-returns-3 c = ap (λ (n : ℕ). Centimetres (getD centimetres n 0)) (place (c .before)) ∙ in-table (factor (c .before)) (passed (c .before))
+returns-3 c = ap (λ (n : ℕ). Given (getD centimetres n 0)) (place (c .before)) ∙ in-table (factor (c .before)) (passed (c .before))
 
 pub accuracy-spec : {M : Type 1} → statement M
 accuracy-spec = tie.close (tie.spec between-requires returns add-i cast-i returns-2 mul-t8 array-read-t11 returns-3)

@@ -11,15 +11,12 @@ use mir.Syntax.{w64}
 use mir.Val.{SFits, toZ, ofZ}
 use borrow.Author.Needs.{needs}
 use borrow.Author.Tests.{not-true, not-false}
-use Rattle.format.specs.declared.DayCount.the-variants.{Days, Refused}
+use Rattle.format.specs.declared.Outcome.the-variants.{Given, NotGiven}
 use Rattle.format.specs.declared.Refusal.the-variants.{OutOfRange}
 use Rattle.format.specs.Fields.{inRange}
 use Rattle.format.specs.Records.{ranges}
 use Rattle.format.specs.Values.{dayCount}
 use Rattle.values.proofs.Fields.{inside}
-use Rattle.records.proofs.between.Reads as between-reads
-use Rattle.values.proofs.day_count.Lts as lts
-use Rattle.values.proofs.day_count.Reads as reads
 use Rattle.values.proofs.day_count.Statement.{statement}
 use Rattle.values.proofs.day_count.Tie as tie
 
@@ -31,15 +28,15 @@ abbrev isDay : ℤ → Bool
 isDay nt = leZ (pos 1) nt && leZ nt (pos 1461)
 
 module _ (n4 nt : ℤ) where
-  no-interval : isInterval n4 ≡ false → Refused (OutOfRange 10) ≡ dayCount n4 nt
+  no-interval : isInterval n4 ≡ false → NotGiven (OutOfRange 10) ≡ dayCount n4 nt
   unfolding dayCount ranges inRange
   no-interval e = rw e
 
-  no-day : isInterval n4 ≡ true → isDay nt ≡ false → Refused (OutOfRange 11) ≡ dayCount n4 nt
+  no-day : isInterval n4 ≡ true → isDay nt ≡ false → NotGiven (OutOfRange 11) ≡ dayCount n4 nt
   unfolding dayCount ranges inRange
   no-day e f = rw (e, f)
 
-  counted : isInterval n4 ≡ true → isDay nt ≡ true → Days (1461 * (natAbs n4 - 1) + natAbs nt - 1) ≡ dayCount n4 nt
+  counted : isInterval n4 ≡ true → isDay nt ≡ true → Given (1461 * (natAbs n4 - 1) + natAbs nt - 1) ≡ dayCount n4 nt
   unfolding dayCount ranges inRange
   counted e f = rw (e, f)
 
@@ -79,13 +76,14 @@ returns-2 c =
     no-day (s .args .n4) (s .args .nt) (sym t ∙ not-false _ (c .before .before .if1 .left)) (sym u ∙ not-true _ (c .if2 .taken))
 
 -- what both tests leave
-module _ (c : lts.Else2 (between-reads.Asked, between-reads.Learnt) reads.Pre reads.Post) where
-  abbrev start : lts.Start (between-reads.Asked, between-reads.Learnt) reads.Pre reads.Post
+module _ (c : tie.Else2) where
+  abbrev start : tie.Start
   start = c .before .before .before .before
 
   interval-passed : isInterval (start .args .n4) ≡ true
   interval-passed =
-      let t = simp (toZ-ofZ {w = w64} (start .fits .n4)) at (c .before .before .before .between .ensures) in sym t ∙ not-false _ (c .before .before .if1 .left)
+      let t = simp (toZ-ofZ {w = w64} (start .fits .n4)) at (c .before .before .before .between .ensures) in
+      sym t ∙ not-false _ (c .before .before .if1 .left)
 
   day-passed : isDay (start .args .nt) ≡ true
   day-passed = let t = simp (toZ-ofZ {w = w64} (start .fits .nt)) at (c .before .between2 .ensures) in sym t ∙ not-false _ (c .if2 .left)
@@ -119,7 +117,7 @@ sub-t13 c = omega (arith, nt-cast c .least)
 
 returns-3 : tie.Need-returns-3
 returns-3 c =
-    ap₂ (λ (a b : ℕ). Days (1461 * (a - 1) + b - 1)) (n4-cast c .same) (nt-cast c .same)
+    ap₂ (λ (a b : ℕ). Given (1461 * (a - 1) + b - 1)) (n4-cast c .same) (nt-cast c .same)
     ∙ counted (start c .args .n4) (start c .args .nt) (interval-passed c) (day-passed c)
 
 pub day-count-spec : {M : Type 1} → statement M

@@ -1,10 +1,10 @@
--- `values::power_of`: the row's power at the field's place; none before field 10 and past field 25. Assumes nothing.
+-- `values::power_of`: the row's power at the field's place; none before field 10 and past the last place. Assumes nothing.
 use mathlib.Core.Path.{_≡_, sym, ap, _∙_}
 use Prim.Native.Nat.{_+_, _-_}
 use native.Mathlib.Omega.{arith}
 use borrow.Author.Needs.{needs}
 use Rattle.format.specs.Values.{powerOf}
-use Rattle.records.proofs.Table as table
+use Rattle.types.proofs.Table.{power-at as row-power}
 use Rattle.values.proofs.Fields.{power-early, power-at, power-past}
 use Rattle.values.proofs.power_of.Statement.{statement}
 use Rattle.values.proofs.power_of.Tie as tie
@@ -27,8 +27,16 @@ array-read-result c = search needs
 returns-3 : tie.Need-returns-3
 returns-3 c =
     let s = c .before .before .before .before in
-    let e : 10 + (s .args .field - 10) ≡ s .args .field = omega arith in
-    table.power-at (c .before .row-of .ensures) (s .args .field - 10) ∙ sym (power-at (s .args .kind) (s .args .field - 10)) ∙ ap (powerOf (s .args .kind)) e
+    let i = s .args .field - 10 in
+    let e : 10 + i ≡ s .args .field = omega arith in
+    row-power (c .before .row-of .ensures) i ∙ sym (power-at (s .args .kind) i) ∙ ap (powerOf (s .args .kind)) e
 
 pub power-of-spec : {M : Type 1} → statement M
-power-of-spec = tie.close (tie.spec returns returns-2 row-of-requires array-read-result returns-3)
+power-of-spec =
+    tie.close
+    (tie.spec
+    returns
+    returns-2
+    row-of-requires
+    array-read-result
+    returns-3)

@@ -15,16 +15,12 @@ use Rattle.format.specs.declared.Record.{Record}
 use Rattle.format.specs.declared.Refusal.{Refusal}
 use Rattle.format.specs.declared.Refusal.the-variants.{OutOfRange}
 use Rattle.format.specs.declared.Value.{Value}
-use Rattle.format.specs.declared.Value.the-variants.{Number, Refused as NoValue}
-use Rattle.format.specs.Answers.{when, _then_}
+use Rattle.format.specs.declared.Value.the-variants.{Number, NoValue}
+use Rattle.format.specs.Tests.{when, _then_}
 use Rattle.format.specs.Records.{recordTests}
+use Rattle.format.specs.Types.{places}
 use Rattle.format.specs.Values.{powerOf, countOf, scaledBits, IsScaled, scaling}
-use Rattle.records.proofs.record_tests.Reads as record-tests-reads
 use Rattle.values.proofs.Fields.{powered, count-at, count-few}
-use Rattle.values.proofs.power_of.Reads as power-of-reads
-use Rattle.values.proofs.scale.Reads as scale-reads
-use Rattle.values.proofs.scaled.Lts as lts
-use Rattle.values.proofs.scaled.Reads as reads
 use Rattle.values.proofs.scaled.Statement.{statement}
 use Rattle.values.proofs.scaled.Tie as tie
 
@@ -59,6 +55,55 @@ none a P x e = absurd (false≢true (ap isNumber e))
 one : (y : Float) (P : Float → Type 0) → P y → (x : Float) → Number y ≡ Number x → P x
 one y P p x e = subst P (ap floatOf e) p
 
+-- After the record's tests.
+module _ (c : tie.After-record-tests) where
+  abbrev start : tie.Start
+  start = c .before .before
+
+  abbrev content : Record
+  content = start .args .r
+
+  abbrev field : ℕ
+  field = start .args .field
+
+-- After the field's power is found: the tests have passed.
+module _ (c : tie.After-power-of) where
+  abbrev tested : tie.After-record-tests
+  tested = c .before .before .before
+
+  passed : recordTests (content tested) ≡ Passed
+  passed = sym (tested .record-tests .ensures) ∙ c .before .enum-told .given .1
+
+-- After the test of the power: there is one, and so a number at the field's place.
+module _ (c : tie.Else1) where
+  abbrev at-power : tie.After-power-of
+  at-power = c .before
+
+  abbrev r : Record
+  r = content (tested at-power)
+
+  abbrev n : ℕ
+  n = field (tested at-power)
+
+  power-there : powerOf (r .kind) n ≡ 0 → ⊥
+  power-there e = c .if1 .left (at-power .power-of .ensures ∙ e)
+
+  inside : (10 ≤ n) × (n - 10 < places)
+  inside = powered (r .kind) n power-there
+
+  number-at : 10 + (n - 10) ≡ n
+  number-at = omega (arith, inside .0)
+
+  count-is : getD (r .numbers) (n - 10) (pos 0) ≡ countOf r n
+  count-is = sym (count-at r (n - 10)) ∙ ap (countOf r) number-at
+
+  few : natAbs (getD (r .numbers) (n - 10) (pos 0)) < 2 ^ 53
+  few =
+      let l : length (r .numbers) ≡ places = search needs in
+      count-few r (n - 10) (passed at-power) (omega (arith, inside .1)) (λ e. power-there (ap (powerOf (r .kind)) (sym number-at) ∙ e))
+
+-- ---- what the code asks, in its order
+
 record-tests-requires : tie.Need-record-tests-requires
 record-tests-requires c κs = search needs
 
@@ -74,37 +119,11 @@ power-of-requires c κs = search needs
 returns : tie.Need-returns
 returns c =
     let p = c .before in
-    let s = p .before .before .before .before .before in
-    let r = s .args .r in
-    let n = s .args .field in
-    let done = sym (p .before .before .before .record-tests .ensures) ∙ p .before .enum-told .given .1 in
-    (refused-number r n done (sym (p .power-of .ensures) ∙ c .if1 .taken), none (OutOfRange n) (IsScaled (countOf r n) (powerOf (r .kind) n)))
-
--- what the tests leave
-module _ (c : lts.Else1 (record-tests-reads.Asked, record-tests-reads.Learnt, power-of-reads.Asked, power-of-reads.Learnt, scale-reads.Asked, scale-reads.Learnt) reads.Pre reads.Post) where
-  abbrev start : lts.Start (record-tests-reads.Asked, record-tests-reads.Learnt, power-of-reads.Asked, power-of-reads.Learnt, scale-reads.Asked, scale-reads.Learnt) reads.Pre reads.Post
-  start = c .before .before .before .before .before .before
-
-  done : recordTests (start .args .r) ≡ Passed
-  done = sym (c .before .before .before .before .record-tests .ensures) ∙ c .before .before .enum-told .given .1
-
-  power-there : powerOf (start .args .r .kind) (start .args .field) ≡ 0 → ⊥
-  power-there e = c .if1 .left (c .before .power-of .ensures ∙ e)
-
-  inside : (10 ≤ start .args .field) × (start .args .field - 10 < 16)
-  inside = powered (start .args .r .kind) (start .args .field) power-there
-
-  -- the count in the field's place
-  number-at : 10 + (start .args .field - 10) ≡ start .args .field
-  number-at = omega (arith, inside .0)
-
-  count-is : getD (start .args .r .numbers) (start .args .field - 10) (pos 0) ≡ countOf (start .args .r) (start .args .field)
-  count-is = sym (count-at (start .args .r) (start .args .field - 10)) ∙ ap (countOf (start .args .r)) number-at
-
-  few : natAbs (getD (start .args .r .numbers) (start .args .field - 10) (pos 0)) < 2 ^ 53
-  few =
-      let l : length (start .args .r .numbers) ≡ 16 = search needs in
-      count-few (start .args .r) (start .args .field - 10) done (omega (arith, inside .1)) (λ e. power-there (ap (powerOf (start .args .r .kind)) (sym number-at) ∙ e))
+    let t = tested p in
+    record {
+      answered = refused-number (content t) (field t) (passed p) (sym (p .power-of .ensures) ∙ c .if1 .taken);
+      exact = none (OutOfRange (field t)) _;
+    }
 
 sub-i : tie.Need-sub-i
 sub-i c = inside c .0
@@ -121,23 +140,21 @@ scale-requires c κs = rw (toZ-ofZ {w = w64} (record { sfits = c .scale-arg .giv
 returns-2 : tie.Need-returns-2
 returns-2 c =
     let t = c .before .before .before in
-    let s = t .before .before in
-    let r = s .args .r in
-    let n = s .args .field in
-    (refused-record r n _ (sym (t .record-tests .ensures) ∙ c .before .tests .given .1), none _ (IsScaled (countOf r n) (powerOf (r .kind) n)))
+    record {
+      answered = refused-record (content t) (field t) _ (sym (t .record-tests .ensures) ∙ c .before .tests .given .1);
+      exact = none _ _;
+    }
 
 returns-3 : tie.Need-returns-3
 returns-3 c =
     let p = c .before .before in
-    let s = start p in
-    let r = s .args .r in
-    let n = s .args .field in
     let z = toZ-ofZ {w = w64} (record { sfits = c .before .scale-arg .given }) ∙ count-is p in
-    let k = p .before .power-of .ensures in
-    let is = c .scale .ensures .0 ∙ ap₂ (λ (z : ℤ) (k : ℕ). ofBits binary64 (scaledBits z k)) z k in (
-      ap Number is ∙ given r n (done p) (power-there p),
-      one (c .scale .result) (IsScaled (countOf r n) (powerOf (r .kind) n)) (rw (← z, ← k) (c .scale .ensures .1)),
-    )
+    let k = at-power p .power-of .ensures in
+    let is = c .scale .ensures .0 ∙ ap₂ (λ (z : ℤ) (k : ℕ). ofBits binary64 (scaledBits z k)) z k in
+    record {
+      answered = ap Number is ∙ given (r p) (n p) (passed (at-power p)) (power-there p);
+      exact = one (c .scale .result) (IsScaled (countOf (r p) (n p)) (powerOf (r p .kind) (n p))) (rw (← z, ← k) (c .scale .ensures .1));
+    }
 
 pub scaled-spec : {M : Type 1} → statement M
 scaled-spec =

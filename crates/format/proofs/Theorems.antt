@@ -1,0 +1,73 @@
+-- What is proved of the definitions of the papers. Assumes nothing.
+use mathlib.Core.Path.{_≡_}
+use mathlib.Core.Bool.{Bool}
+use mathlib.Core.List.{List}
+use mathlib.Core.Logic.{_↔_}
+use Prim.Native.Nat.{ℕ, _<_}
+use lib.ListN.{length, getD}
+use Rattle.cyclic.specs.Burst.{Burst}
+use Rattle.format.specs.declared.Answer.the-variants.{Passed}
+use Rattle.format.specs.declared.Outcome.{Outcome}
+use Rattle.format.specs.declared.Outcome.the-variants.{Given}
+use Rattle.format.specs.declared.Record.{Record}
+use Rattle.format.specs.Demand3.{Clean, InStep, ListPromise}
+use Rattle.format.specs.Listing.{Lists, starts, listAfter, listing}
+use Rattle.format.specs.Reading.{reading}
+use Rattle.format.specs.Standing.{stringTests, standing}
+use Rattle.format.specs.Strings.{stringBits, typeAt, lengthOf, checkBits, Stands}
+use Rattle.format.specs.Writing.{writing, bytesAfter, ReadsBack, WritesBack}
+use Rattle.bits.specs.Bits.{recorded}
+use Rattle.format.proofs.Agree
+use Rattle.format.proofs.Damage
+use Rattle.format.proofs.Promise
+use Rattle.format.proofs.Resync
+use Rattle.format.proofs.RoundTrips
+use Rattle.format.proofs.Rule
+use Rattle.format.proofs.Writing.{Typed}
+
+-- ---- what stands
+
+-- What is computed to stand at a place is what stands there.
+pub agree : (bits : List Bool) (place long : ℕ) → 0 < long → (standing bits place ≡ long) ↔ Stands bits place long
+agree = Agree.agree
+
+-- The tests 5, 4, 5, 6 pass where a string stands, and only there.
+pub tests-pass : (bits : List Bool) (place : ℕ) → (stringTests bits place ≡ Passed) ↔ Stands bits place (lengthOf (typeAt bits place))
+tests-pass bits place = (Agree.pass-stands bits place, Agree.stands-pass)
+
+-- A string that stood stands no more where a burst has changed its bits, if its type still names the same length.
+pub damaged-none : {was now : List Bool} {place long : ℕ} → Stands was place long
+    → Burst (checkBits (typeAt was place)) (stringBits was place 1 long) (stringBits now place 1 long) → lengthOf (typeAt now place) ≡ long
+    → (l : ℕ) → Stands now place l → ⊥
+damaged-none = Damage.damaged-none
+
+-- ---- listing
+
+-- The computed starts follow the rule, and no others do.
+pub rule : (bits : List Bool) → Lists (Stands bits) (length bits) 0 (starts bits)
+rule = Rule.rule
+
+pub rule-unique : (bits : List Bool) {found : List ℕ} → Lists (Stands bits) (length bits) 0 found → found ≡ starts bits
+rule-unique = Rule.rule-unique
+
+-- Past a damaged stretch, the starts are in step with the true boundaries.
+pub resync : (bits : List Bool) (b : ℕ) (bs : List ℕ) → Clean (Stands bits) (length bits) b bs → InStep (Stands bits) b bs (starts bits)
+resync = Resync.resync
+
+-- An answer and a list that are what the definitions say keep the whole promise of listing.
+pub list-promise : (bytes : List ℕ) (count : ℕ) (before : List ℕ) (answer : Outcome) (after : List ℕ)
+    → answer ≡ listing bytes count (length before)
+    → after ≡ listAfter answer before (starts (recorded bytes count)) → ListPromise bytes count before answer after
+list-promise = Promise.promised
+
+-- ---- reading and writing undo each other
+
+-- A record that writes reads back the same, and stands where it was written.
+pub written-back : (bytes : List ℕ) (count place next : ℕ) (r : Record) → Typed r → writing (length bytes) count place r ≡ Given next
+    → ReadsBack (bytesAfter (Given next) place r bytes) count place r
+written-back = RoundTrips.written-back
+
+-- A string that reads writes back to the same bits and bytes.
+pub read-back : (bytes : List ℕ) (count place : ℕ) → ((i : ℕ) → getD bytes i 0 < 256) → reading bytes count place .answer ≡ Passed
+    → WritesBack bytes count place (reading bytes count place .content)
+read-back = RoundTrips.read-back

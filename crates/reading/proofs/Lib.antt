@@ -1,0 +1,3 @@
+pub mod Service
+pub mod Whole
+pub mod Chain

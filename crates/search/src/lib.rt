@@ -1,0 +1,67 @@
+// The search for the next time mark in a recording.
+ghost use Prim.Native.Nat.{_*_, _^_, _<_, _≤_};
+ghost use lib.ListN.{length};
+ghost use Rattle.bits.specs.Bits.{bits, recorded};
+ghost use Rattle.search.specs.Search.{NextMark, MarkFree, Hits};
+
+// The places of the mark 0101 1111 0001 in the 64 bits of a word, as ones at these places: `rise`, `ones` and `zeros` have a one where
+// 01, 11 and 00 begin, and `first`, `second` and `third` where the mark's fours do.
+fn marks(word: u64) -> u64
+    ensures { λ r. ⌜ Hits (bits 64 word) 0 53 r ⌝ }
+{
+    let up = word << 1;
+    let rise = !word & up;
+    let ones = word & up;
+    let zeros = !word & !up;
+    let later = rise << 2;
+    let first = rise & later;
+    let second = ones & (ones << 2);
+    let third = zeros & later;
+    first & (second << 4) & (third << 8)
+}
+
+// A byte up to which no place from the byte `first` on has the mark: word by word, 48 places of each, as long as they have none.
+fn free_to(rec: &[u8], count: usize, first: usize) -> usize
+    requires { ⌜ (count < 2 ^ 32) × (count ≤ 8 * length (now rec)) × (8 * first ≤ count) ⌝ }
+    ensures { λ r. ⌜ (first ≤ r) × (8 * r ≤ count) × MarkFree (recorded (now (rec .entry)) count) (8 * first) (8 * r) ⌝ }
+{
+    let mut i = first;
+    while 8 * i + 64 <= count {
+        if marks(bits::word_at(rec, i)) != 0 {
+            return i;
+        }
+        i += 6;
+    }
+    i
+}
+
+// The first place from `from` on with the mark, or the bit count, place by place.
+fn mark_from(rec: &[u8], count: usize, from: usize) -> usize
+    requires { ⌜ (count < 2 ^ 32) × (count ≤ 8 * length (now rec)) × (from ≤ count) ⌝ }
+    ensures { λ r. ⌜ NextMark (recorded (now (rec .entry)) count) from r ⌝ }
+{
+    let mut p = from;
+    while p + 12 <= count {
+        if bits::field(rec, p, 12) == format::MARK {
+            return p;
+        }
+        p += 1;
+    }
+    count
+}
+
+// The first place from `from` on with the mark, or the bit count: word by word as long as the rest has a word, then place by place.
+pub fn next_mark(rec: &[u8], count: usize, from: usize) -> usize
+    requires { ⌜ (count < 2 ^ 32) × (count ≤ 8 * length (now rec)) × (from ≤ count) ⌝ }
+    ensures { λ r. ⌜ NextMark (recorded (now (rec .entry)) count) from r ⌝ }
+{
+    let mut p = from;
+    while p + 64 <= count {
+        let hits = marks(bits::word_at(rec, p / 8)) << (p % 8);
+        if hits != 0 {
+            return p + u64::leading_zeros(hits) as usize;
+        }
+        p = 8 * free_to(rec, count, p / 8 + 6);
+    }
+    mark_from(rec, count, p)
+}

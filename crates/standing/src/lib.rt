@@ -1,0 +1,83 @@
+// What stands at a place of a recording.
+ghost use mathlib.Core.Path.{_≡_};
+ghost use mathlib.Core.Bool.{true};
+ghost use mathlib.Core.Logic.{_↔_};
+ghost use Prim.Native.Nat.{_+_, _*_, _^_, _<_, _≤_};
+ghost use lib.ListN.{length};
+ghost use Rattle.bits.specs.Bits.{unpack, recorded, cut};
+ghost use Rattle.cyclic.specs.Poly.{Divides};
+ghost use Rattle.format.specs.Standing.{standing};
+ghost use Rattle.format.specs.Strings.{generatorOf};
+ghost use Rattle.format.specs.Tests.{Passes};
+ghost use Rattle.standing.specs.Frames.{frameAt, Tables};
+
+// What is at a place, up to the check: fewer than 18 bits, no mark, a string that runs past the bit count; or the type and the length of
+// a string that stands there if its check passes.
+pub enum Frame {
+    Short,
+    Unmarked,
+    Beyond,
+    Framed(u8, usize),
+}
+
+// The frame at a place.
+pub fn frame_at(rec: &[u8], count: usize, place: usize) -> Frame
+    requires { ⌜ Passes (now rec) count × (place ≤ count) ⌝ }
+    ensures { λ f. ⌜ f ≡ frameAt (recorded (now (rec .entry)) count) place ⌝ }
+{
+    if count - place < 18 {
+        return Frame::Short;
+    }
+    let first = place / 8;
+    let head = bits::field(&rec[first..], place % 8, 18);
+    if head / 64 != format::MARK {
+        return Frame::Unmarked;
+    }
+    let kind = (head % 64) as u8;
+    let long = types::length_of(kind);
+    if count - place < long {
+        return Frame::Beyond;
+    }
+    Frame::Framed(kind, long)
+}
+
+// Whether the generator of a type divides the `count` bits from the place `offset`, by the lent tables of both generators.
+fn check_passes(
+    part: &[u8],
+    offset: usize,
+    count: usize,
+    kind: u8,
+    t16: &[u32],
+    t24: &[u32],
+) -> bool
+    requires { ⌜ (8 ≤ count) × (offset + count ≤ 8 * length (now part)) × (offset + count < 2 ^ 32) × Tables (now t16) (now t24) ⌝ }
+    ensures { λ r. ⌜ (r ≡ true) ↔ Divides (generatorOf kind) (cut offset count (unpack (now (part .entry)))) ⌝ }
+{
+    if kind == 2 {
+        types::divides(part, offset, count, kind, t24)
+    } else {
+        types::divides(part, offset, count, kind, t16)
+    }
+}
+
+// The length of the string that stands at a place, or 0. The check is taken from only the bytes that the string covers.
+pub fn standing(rec: &[u8], count: usize, place: usize, t16: &[u32], t24: &[u32]) -> usize
+    requires { ⌜ Passes (now rec) count × (place ≤ count) × Tables (now t16) (now t24) ⌝ }
+    ensures { λ r. ⌜ r ≡ standing (recorded (now (rec .entry)) count) place ⌝ }
+{
+    let frame = frame_at(rec, count, place);
+    match frame {
+        Frame::Short => 0,
+        Frame::Unmarked => 0,
+        Frame::Beyond => 0,
+        Frame::Framed(kind, long) => {
+            let first = place / 8;
+            let end = (place + long + 7) / 8;
+            if check_passes(&rec[first..end], place % 8, long, kind, t16, t24) {
+                long
+            } else {
+                0
+            }
+        }
+    }
+}

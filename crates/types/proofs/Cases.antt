@@ -1,0 +1,90 @@
+-- A type's length, generator and check bits by its cases: type 1, type 2, and every other. Assumes nothing.
+use mathlib.Core.Path.{_≡_, refl, sym, ap, _∙_, subst}
+use mathlib.Core.Bool.{Bool, true, cond}
+use mathlib.Core.List.{List}
+use mathlib.Core.Logic.{_↔_}
+use Prim.Native.Nat.{ℕ, _≤_}
+use native.Mathlib.Decide.{ℕ-discrete}
+use native.Mathlib.Omega.{arith}
+use borrow.Author.Tests.{eq-eqb, ne-eqb}
+use Rattle.bits.specs.Bits.{number, bits}
+use Rattle.cyclic.specs.Generators.{generator16, generator24}
+use Rattle.cyclic.specs.Poly.{Divides}
+use Rattle.cyclic.specs.Register.{degree, check}
+use Rattle.cyclic.specs.Tables.{Table}
+use Rattle.cyclic.proofs.Worked.{number16, number24}
+use Rattle.format.specs.Strings.{lengthOf, generatorOf, checkBits}
+use Rattle.format.proofs.Agree.{length-unit}
+use Rattle.types.specs.Generators.{TableOf}
+
+-- ---- lengths
+module _ (t : ℕ) where
+  pub length-one : t ≡ 1 → lengthOf t ≡ 125
+  unfolding lengthOf
+  length-one e = simp (eq-eqb t 1 e)
+
+  pub length-two : (t ≡ 1 → ⊥) → t ≡ 2 → lengthOf t ≡ 375
+  unfolding lengthOf
+  length-two n e = simp (ne-eqb t 1 n, eq-eqb t 2 e)
+
+  pub length-other : (t ≡ 1 → ⊥) → (t ≡ 2 → ⊥) → lengthOf t ≡ 250
+  unfolding lengthOf
+  length-other n m = simp (ne-eqb t 1 n, ne-eqb t 2 m)
+
+pub length-least : (t l : ℕ) → l ≡ lengthOf t → (125 ≤ l) × (l ≤ 375)
+length-least t l e = let u = length-unit t in (omega arith, omega arith)
+
+-- ---- generators
+generator-two : (t : ℕ) → t ≡ 2 → generator24 ≡ generatorOf t
+unfolding generatorOf
+generator-two t e = sym (ap (λ (b : Bool). cond b generator24 generator16) (eq-eqb t 2 e))
+
+generator-other : (t : ℕ) → (t ≡ 2 → ⊥) → generator16 ≡ generatorOf t
+unfolding generatorOf
+generator-other t n = sym (ap (λ (b : Bool). cond b generator24 generator16) (ne-eqb t 2 n))
+
+-- the numbers that the code has for the generators are those of the types
+pub number-two : (t : ℕ) → t ≡ 2 → bits 25 0x1864CFB ≡ generatorOf t
+number-two t e = number24 ∙ generator-two t e
+
+pub number-other : (t : ℕ) → (t ≡ 2 → ⊥) → bits 17 0x16F63 ≡ generatorOf t
+number-other t n = number16 ∙ generator-other t n
+
+-- ---- check bits
+pub check-two : (t : ℕ) → t ≡ 2 → 24 ≡ checkBits t
+check-two t e = ap degree (generator-two t e)
+
+pub check-other : (t : ℕ) → (t ≡ 2 → ⊥) → 16 ≡ checkBits t
+check-other t n = ap degree (generator-other t n)
+
+pub check-few : (t : ℕ) → checkBits t ≤ 24
+check-few t = elim (ℕ-discrete t 2) [ yes e ↦ omega (arith, check-two t e) | no n ↦ omega (arith, check-other t n) ]
+
+-- ---- tables
+abbrev Tabled : List ℕ → List Bool → Type 0
+Tabled x g = Table (degree g) (number g) x
+
+module _ (t : ℕ) {x : List ℕ} where
+  pub two-table : t ≡ 2 → Table 24 0x1864CFB x → TableOf t x
+  unfolding TableOf
+  two-table e h = subst (Tabled x) (generator-two t e) h
+
+  pub other-table : (t ≡ 2 → ⊥) → Table 16 0x16F63 x → TableOf t x
+  unfolding TableOf
+  other-table n h = subst (Tabled x) (generator-other t n) h
+
+  pub table-two : t ≡ 2 → TableOf t x → Table 24 0x1864CFB x
+  unfolding TableOf
+  table-two e h = subst (Tabled x) (sym (generator-two t e)) h
+
+  pub table-other : (t ≡ 2 → ⊥) → TableOf t x → Table 16 0x16F63 x
+  unfolding TableOf
+  table-other n h = subst (Tabled x) (sym (generator-other t n)) h
+
+-- a test by a generator is a test by the type's
+pub by-generator : {g g′ p : List Bool} {v : Bool} → g ≡ g′ → (v ≡ true) ↔ Divides g p → (v ≡ true) ↔ Divides g′ p
+by-generator {g} {g′} {p} {v} e = subst (λ (x : List Bool). (v ≡ true) ↔ Divides x p) e
+
+-- check bits by a generator are those by the type's
+pub check-by : {g g′ : List Bool} {c : ℕ} (p : List Bool) → g ≡ g′ → c ≡ number (check g p) → c ≡ number (check g′ p)
+check-by {g} {g′} {c} p e = subst (λ (x : List Bool). c ≡ number (check x p)) e

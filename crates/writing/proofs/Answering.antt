@@ -1,0 +1,115 @@
+-- What writing answers, and its promise. Assumes nothing.
+use mathlib.Core.Path.{_≡_, refl, sym, ap, ap₂, _∙_, subst}
+use mathlib.Core.List.{List, _++_}
+use Prim.Native.Nat.{ℕ, _+_, _-_, _*_, _/_, _%_, _≤_, _<_}
+use native.Mathlib.Omega.{arith}
+use lib.ListN.{length, take, drop, getD}
+use borrow.Author.Tests.{ltb-false}
+use Rattle.bits.specs.Bits.{unpack, put, packed}
+use Rattle.bits.proofs.Bytes.{length-unpack, packed-unpack, put-part}
+use Rattle.bits.proofs.Lists.{length-put}
+use Rattle.format.specs.declared.Answer.{Answer}
+use Rattle.format.specs.declared.Answer.the-variants.{Passed, Refused}
+use Rattle.format.specs.declared.Outcome.the-variants.{Given, NotGiven}
+use Rattle.format.specs.declared.Record.{Record}
+use Rattle.format.specs.declared.Refusal.{Refusal}
+use Rattle.format.specs.declared.Refusal.the-variants.{RunsOut}
+use Rattle.format.specs.Records.{recordTests}
+use Rattle.format.specs.Strings.{lengthOf}
+use Rattle.format.specs.Tests.{when, _then_, giving, above, placeTests}
+use Rattle.format.specs.Writing.{string, writeTests, writing, ReadsBack, WritePromise}
+use Rattle.format.proofs.Order.{passed-then, refused-then, then-pass, when-pass}
+use Rattle.format.proofs.RoundTrips.{written-back}
+use Rattle.format.proofs.Writing.{Typed, length-string}
+
+-- the tests after those of the place
+abbrev pub later : ℕ → ℕ → Record → Answer
+later count place r = recordTests r then when (above (place + lengthOf (r .kind)) count) (RunsOut place)
+
+module _ (bytes count place : ℕ) (r : Record) where
+  answered : (a : Answer) → writeTests bytes count place r ≡ a → giving a (place + lengthOf (r .kind)) ≡ writing bytes count place r
+  unfolding writing
+  answered a e = ap (λ (z : Answer). giving z (place + lengthOf (r .kind))) (sym e)
+
+  pub place-refuses : (a : Answer) (x : Refusal) → a ≡ placeTests bytes count place → a ≡ Refused x
+      → NotGiven x ≡ writing bytes count place r
+  unfolding writeTests
+  place-refuses a x e f =
+      answered (Refused x)
+      (ap (λ (z : Answer). z then recordTests r then when (above (place + lengthOf (r .kind)) count) (RunsOut place)) (sym e ∙ f)
+      ∙ refused-then x _)
+
+  module _ (placed : placeTests bytes count place ≡ Passed) where
+    only-later : writeTests bytes count place r ≡ later count place r
+    unfolding writeTests
+    only-later =
+        ap (λ (y : Answer). y then recordTests r then when (above (place + lengthOf (r .kind)) count) (RunsOut place)) placed
+        ∙ passed-then _
+
+    pub later-refuses : (x : Refusal) → later count place r ≡ Refused x → NotGiven x ≡ writing bytes count place r
+    later-refuses x e = answered (Refused x) (only-later ∙ e)
+
+    pub all-pass : later count place r ≡ Passed → Given (place + lengthOf (r .kind)) ≡ writing bytes count place r
+    all-pass e = answered Passed (only-later ∙ e)
+
+pub later-says : (count place : ℕ) (r : Record) → later count place r ≡ Passed
+    → (recordTests r ≡ Passed) × (place + lengthOf (r .kind) ≤ count)
+later-says count place r e =
+    let a = then-pass (recordTests r) (when (above (place + lengthOf (r .kind)) count) (RunsOut place)) e in
+    (a .0, ltb-false count (place + lengthOf (r .kind)) (when-pass (above (place + lengthOf (r .kind)) count) (RunsOut place) (a .1)))
+
+-- ---- what writing promises
+
+-- where it is refused
+pub refuses : (bytes : List ℕ) (count place : ℕ) (r : Record) (x : Refusal) → NotGiven x ≡ writing (length bytes) count place r
+    → WritePromise bytes count place r (NotGiven x) bytes
+refuses bytes count place r x e =
+    record { answered = e; left = refl; back = λ next f. let z : _≡_ {A = ℕ} 0 1 = cc in absurd (omega arith) }
+
+-- where the string is put into the part of the bytes that it covers
+module _ (bytes t : List ℕ) (count place long : ℕ) (r : Record) (holds : Typed r) (el : long ≡ lengthOf (r .kind))
+    (placed : placeTests (length bytes) count place ≡ Passed) (passed : later count place r ≡ Passed)
+    (inside : count ≤ 8 * length bytes) where
+  room : place + long ≤ count
+  room = omega (arith, later-says count place r passed .1)
+
+  abbrev first : ℕ
+  first = place / 8
+
+  abbrev size : ℕ
+  size = (place + long + 7) / 8 - place / 8
+
+  abbrev after : List ℕ
+  after = take first bytes ++ (t ++ drop size (drop first bytes))
+
+  module _ (below : (i : ℕ) → getD after i 0 < 256)
+      (e : unpack t ≡ put (place % 8) (string r) (unpack (take size (drop first bytes)))) where
+    after-bits : unpack after ≡ put place (string r) (unpack bytes)
+    after-bits =
+        let l = length-string r holds in
+        let k = room in
+        put-part bytes t first size (place % 8) place (string r) (omega arith) (omega arith) (omega arith) e
+
+    after-length : length after ≡ length bytes
+    after-length =
+        omega (
+          arith,
+          length-unpack after,
+          length-unpack bytes,
+          ap length after-bits,
+          length-put place (string r) (unpack bytes) (omega (arith, length-unpack bytes, length-string r holds, room)),
+        )
+
+    after-bytes : after ≡ packed (length bytes) (put place (string r) (unpack bytes))
+    after-bytes = sym (packed-unpack after below) ∙ ap₂ packed after-length after-bits
+
+    passes : Given (place + long) ≡ writing (length bytes) count place r
+    passes = ap (λ (n : ℕ). Given (place + n)) el ∙ all-pass (length bytes) count place r placed passed
+
+    back : ReadsBack after count place r
+    back =
+        subst (λ (b : List ℕ). ReadsBack b count place r) (sym after-bytes)
+        (written-back bytes count place (place + long) r holds (sym passes))
+
+    pub writes : WritePromise bytes count place r (Given (place + long)) after
+    writes = record { answered = passes; left = after-bytes; back = λ next f. back }
