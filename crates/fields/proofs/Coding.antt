@@ -8,7 +8,7 @@ use native.Mathlib.Omega.{arith}
 use lib.Dec.{eqb}
 use lib.IntN.{ℤ, pos, natAbs}
 use lib.ListN.{length, length-append, drop, getD}
-use lib.Seq.{drop-cons, drop-length}
+use lib.Seq.{drop-cons}
 use Rattle.bits.specs.Bits.{number, odd, isOne, bits, put}
 use Rattle.bits.proofs.Lists.{put-none, put-join, length-put}
 use Rattle.bits.proofs.Numbers.{number-lt, length-bits, bits-back}
@@ -20,7 +20,7 @@ use Rattle.format.specs.Tests.{when}
 use Rattle.format.specs.Fields.{Field, widest, unsigned, signed, absent, width, isSigned, total, code, codes}
 use Rattle.format.specs.Records.{markBits, unused, overfilled, stray, fieldTests, recordTests}
 use Rattle.format.specs.Types.{places, markWidth, placesOf}
-use Rattle.format.proofs.Information.{every, every-head, every-at, every-drop, marks-cover, length-information, widths}
+use Rattle.format.proofs.Information.{every, every-head, every-at, every-drop, marks-cover, length-information, widths, fields-left}
 use Rattle.format.proofs.Order.{then-pass, when-pass}
 use Rattle.format.proofs.Writing.{ranged}
 use Rattle.format.proofs.FieldLaws.{or-left, sound, Passes, information-sound, length-code, value-code, Fits, fits, length-markBits}
@@ -117,24 +117,31 @@ written-start {from} {kind} {minus} {numbers} h l t =
       filled = refl;
     }
 
--- all places
-pub written-all : {from kind minus : ℕ} {numbers : List ℤ} {u₀ u : List Bool} {at marks : ℕ} (i : ℕ)
-    → WrittenSoFar from kind minus numbers u₀ u at marks i → i ≡ places
-    → u ≡ put from (codes (placesOf kind) numbers (markBits markWidth minus)) u₀
-unfolding codes
-written-all {kind = kind} {numbers = numbers} {u = u} {at = at} {marks = marks} i c e =
-    let fs = placesOf kind in
-    let none : drop i fs ≡ [] = ap (λ (k : ℕ). drop k fs) (e ∙ sym (length-information kind)) ∙ drop-length fs in
-    sym (ap (λ (gs : List Field). put at (codes gs (drop i numbers) (markBits (markWidth - i) marks)) u) none ∙ put-none at u) ∙ c .filled
+-- bits put at a place that is written in another way
+pub put-at-same : {z : List Bool} {a b : ℕ} (p u : List Bool) → a ≡ b → z ≡ put a p u → z ≡ put b p u
+put-at-same p u e h = h ∙ ap (λ (k : ℕ). put k p u) e
+
+no-bits : (p : List Bool) → length p ≡ 0 → p ≡ []
+no-bits [] e = refl
+no-bits (b ∷ p) e = absurd (omega arith)
 
 module _ {from kind minus : ℕ} {numbers : List ℤ} {u₀ u : List Bool} {at marks i : ℕ}
     (c : WrittenSoFar from kind minus numbers u₀ u at marks i) where
-  -- the same bits, or the same place, written in another way
+  -- all fields
+  pub written-all : from + total (placesOf kind) ≤ at → u ≡ put from (codes (placesOf kind) numbers (markBits markWidth minus)) u₀
+  written-all e =
+      let more = codes (drop i (placesOf kind)) (drop i numbers) (markBits (markWidth - i) marks) in
+      let lm : length more ≡ total (drop i (placesOf kind)) =
+      length-fit (every-drop sound (placesOf kind) i (information-sound kind)) (c .fit) in
+      sym (ap (λ (p : List Bool). put at p u) (no-bits more (omega (arith, c .place))) ∙ put-none at u) ∙ c .filled
+
+  -- a field is left
+  pub left-here : at < from + total (placesOf kind) → i < places
+  left-here h = fields-left kind i (omega (arith, c .place))
+
+  -- the same bits written in another way
   pub written-same : {z : List Bool} → z ≡ u → WrittenSoFar from kind minus numbers u₀ z at marks i
   written-same e = subst (λ (p : List Bool). WrittenSoFar from kind minus numbers u₀ p at marks i) (sym e) c
-
-  pub written-at : {to : ℕ} → to ≡ at → WrittenSoFar from kind minus numbers u₀ u to marks i
-  written-at e = subst (λ (p : ℕ). WrittenSoFar from kind minus numbers u₀ u p marks i) (sym e) c
 
   -- the place at hand: its field, as the row has it
   module _ {row : Row} (d : Describes (placesOf kind) row) (l : i < places) where

@@ -1,24 +1,27 @@
 -- What the loop over a type's places has decoded. Assumes nothing.
 use mathlib.Core.Path.{_≡_, refl, sym, ap, ap₂, _∙_}
-use mathlib.Core.Bool.{Bool, true, false, _&&_}
+use mathlib.Core.Bool.{Bool, true, false, true≢false, _&&_}
 use mathlib.Core.List.{List, [], _∷_}
-use Prim.Native.Nat.{ℕ, suc, _+_, _*_, _^_, _≤_, _<_}
+use Prim.Native.Nat.{ℕ, suc, _+_, _-_, _*_, _^_, _≤_, _<_}
 use native.Mathlib.Nat.{mul-assoc, mul-comm, mul-add}
 use native.Mathlib.Numerals.{add-one}
 use native.Mathlib.Omega.{arith}
+use lib.Dec.{eqb}
 use lib.IntN.{ℤ, pos}
-use lib.ListN.{length, length-set, length-drop, take, drop, getD, set}
+use lib.ListN.{length, length-set, length-drop, length-replicate, take, drop, replicate, getD, set}
 use lib.Pow.{pow-add, pow-mono}
-use lib.Seq.{drop-cons, drop-drop, drop-length}
+use lib.Seq.{take-all, drop-cons, drop-drop, drop-set-lt}
+use borrow.Author.Tests.{eq-eqb}
 use Rattle.bits.specs.Bits.{bit, number, bits, cut, put}
 use Rattle.bits.specs.Signed.{signedOf, isMinusZero}
-use Rattle.bits.proofs.Lists.{length-cut, put-none, put-cons, put-whole}
+use Rattle.bits.proofs.Lists.{length-cut, put-same, put-cons, put-whole}
 use Rattle.bits.proofs.Numbers.{bits-back, number-cut-lt}
 use Rattle.format.specs.Fields.{Field, widest, unsigned, signed, absent, width, isSigned, total, value, marked, values, minusZeros}
 use Rattle.format.specs.Records.{markOf}
 use Rattle.format.specs.Types.{places, markWidth, placesOf}
-use Rattle.format.proofs.Information.{marks-cover, length-information, widths, length-values, length-minusZeros, markOf-lt}
-use Rattle.types.proofs.Table.{width-at, sign-at}
+use Rattle.format.proofs.Information.{every, every-head, every-drop, marks-cover, length-information, fields-left, widths, length-values}
+use Rattle.format.proofs.Information.{length-minusZeros, markOf-lt}
+use Rattle.types.proofs.Table.{wide, all-wide, width-tells, width-at, sign-at}
 use Rattle.types.specs.declared.rows.Row.{Row}
 use Rattle.types.specs.Rows.{Describes}
 use Rattle.fields.specs.Decoded.{numberOf, markBit, Decoded}
@@ -49,33 +52,61 @@ pub record ReadSoFar (u : List Bool) (from kind : ℕ) (numbers : List ℤ) (min
   pub long : length numbers ≡ places
   pub place : at + total (drop i (placesOf kind)) ≡ from + total (placesOf kind)
   pub filled : put i (values (drop i (placesOf kind)) (drop at u)) numbers ≡ values (placesOf kind) (drop from u)
+  pub rest : drop i numbers ≡ replicate (places - i) (pos 0)
   pub mark : minus + 2 ^ i * markOf (minusZeros (drop i (placesOf kind)) (drop at u)) ≡ markOf (minusZeros (placesOf kind) (drop from u))
 
-pub read-start : (u : List Bool) (from kind : ℕ) (numbers : List ℤ) → length numbers ≡ places → ReadSoFar u from kind numbers 0 from 0
-read-start u from kind numbers h =
+pub read-start : (u : List Bool) (from kind : ℕ) → ReadSoFar u from kind (replicate places (pos 0)) 0 from 0
+read-start u from kind =
     let fs = placesOf kind in
+    let zeros = replicate places (pos 0) in
+    let l : length zeros ≡ places = length-replicate places (pos 0) in
     record {
-      long = h;
+      long = l;
       place = refl;
-      filled = put-whole (values fs (drop from u)) numbers (length-values fs (drop from u) ∙ length-information kind ∙ sym h);
+      filled = put-whole (values fs (drop from u)) zeros (length-values fs (drop from u) ∙ length-information kind ∙ sym l);
+      rest = refl;
       mark = omega arith;
     }
 
--- all places
-pub read-all : {u : List Bool} {from kind : ℕ} {minus at : ℕ} (numbers : List ℤ) (i : ℕ) → ReadSoFar u from kind numbers minus at i
-    → i ≡ places → Decoded kind (drop from u) (record { numbers = numbers; minus = minus })
+put-rest : (i : ℕ) (l : List ℤ) → i ≤ length l → put i (drop i l) l ≡ l
+unfolding cut
+put-rest i l h =
+    ap (λ (q : List ℤ). put i q l) (sym (take-all (length l - i) (drop i l) (omega (arith, length-drop i l))))
+    ∙ put-same i (length l - i) l (omega arith)
+
+-- fields without bits are absent: their numbers are 0, and none is marked
+none-left : (fs : List Field) (p : List Bool) → every wide fs ≡ true → total fs ≡ 0
+    → (values fs p ≡ replicate (length fs) (pos 0)) × (markOf (minusZeros fs p) ≡ 0)
 unfolding values minusZeros markOf
-read-all {u} {from} {kind} {minus} {at} numbers i c e =
-    let fs = placesOf kind in
-    let none : drop i fs ≡ [] = ap (λ (k : ℕ). drop k fs) (e ∙ sym (length-information kind)) ∙ drop-length fs in
-    let left : minus + 2 ^ i * 0 ≡ markOf (minusZeros fs (drop from u)) =
-    ap (λ (gs : List Field). minus + 2 ^ i * markOf (minusZeros gs (drop at u))) (sym none) ∙ c .mark in
-    record {
-      numbers = sym (ap (λ (gs : List Field). put i (values gs (drop at u)) numbers) none ∙ put-none i numbers) ∙ c .filled;
-      mark = omega arith;
-    }
+none-left [] p e z = (refl, refl)
+none-left (absent ∷ fs) p e z =
+    let r = none-left fs p (every-head wide absent fs e .1) (omega arith) in
+    (ap (λ (vs : List ℤ). pos 0 ∷ vs) (r .0), omega (arith, r .1))
+none-left (unsigned w a b k ∷ fs) p e z =
+    let q : eqb w 0 ≡ true = eq-eqb w 0 (omega arith) in
+    absurd (true≢false (sym q ∙ width-tells (unsigned w a b k) (every-head wide (unsigned w a b k) fs e .0)))
+none-left (signed w k ∷ fs) p e z =
+    let q : eqb w 0 ≡ true = eq-eqb w 0 (omega arith) in
+    absurd (true≢false (sym q ∙ width-tells (signed w k) (every-head wide (signed w k) fs e .0)))
 
 module _ {u : List Bool} {from kind : ℕ} {numbers : List ℤ} {minus at i : ℕ} (c : ReadSoFar u from kind numbers minus at i) where
+  -- all fields
+  pub read-all : i ≤ places → from + total (placesOf kind) ≤ at → Decoded kind (drop from u) (record { numbers = numbers; minus = minus })
+  read-all h e =
+      let fs = drop i (placesOf kind) in
+      let n = none-left fs (drop at u) (every-drop wide (placesOf kind) i (all-wide kind)) (omega (arith, c .place)) in
+      let k : length fs ≡ places - i = length-drop i (placesOf kind) ∙ ap (λ (m : ℕ). m - i) (length-information kind) in
+      let same : values fs (drop at u) ≡ drop i numbers = n .0 ∙ ap (λ (m : ℕ). replicate m (pos 0)) k ∙ sym (c .rest) in
+      let m : 2 ^ i * markOf (minusZeros fs (drop at u)) ≡ 2 ^ i * 0 = ap (λ (x : ℕ). 2 ^ i * x) (n .1) in
+      record {
+        numbers = sym (ap (λ (q : List ℤ). put i q numbers) same ∙ put-rest i numbers (omega (arith, c .long))) ∙ c .filled;
+        mark = omega (arith, c .mark, m);
+      }
+
+  -- a field is left
+  pub left-here : at < from + total (placesOf kind) → i < places
+  left-here h = fields-left kind i (omega (arith, c .place))
+
   -- the mark so far is a part of the whole
   pub mark-fits : minus < 2 ^ markWidth
   mark-fits =
@@ -161,6 +192,15 @@ module _ {u : List Bool} {from kind : ℕ} {numbers : List ℤ} {minus at i : �
             let shifted : 2 ^ (i + 1) * n ≡ 2 ^ i * (2 * n) = ap (λ (k : ℕ). k * n) (pow-add 2 i 1) ∙ mul-assoc (2 ^ i) 2 n in
             omega (arith, whole, shifted, m-is, mul-comm b (2 ^ i), mul-add (2 ^ i) b (2 * n))
 
+        rest-on : drop (i + 1) (set numbers i v) ≡ replicate (places - (i + 1)) (pos 0)
+        rest-on =
+            let n : places - i ≡ suc (places - (i + 1)) = omega arith in
+            let here : drop i numbers ≡ getD numbers i (pos 0) ∷ drop (i + 1) numbers =
+            drop-cons numbers i (pos 0) (omega (arith, c .long))
+            ∙ ap (λ (k : ℕ). getD numbers i (pos 0) ∷ drop k numbers) (sym (add-one i)) in
+            drop-set-lt (i + 1) numbers i v (omega arith)
+            ∙ ap (λ (l : List ℤ). drop 1 l) (sym here ∙ c .rest ∙ ap (λ (k : ℕ). replicate k (pos 0)) n)
+
         pub read-on : ReadSoFar u from kind (set numbers i v) (minus + m) (at + getD (row .widths) i 0) (i + 1)
         read-on =
             let fs = drop (i + 1) (placesOf kind) in
@@ -170,6 +210,7 @@ module _ {u : List Bool} {from kind : ℕ} {numbers : List ℤ} {minus at i : �
             record {
               long = length-set numbers i v ∙ c .long;
               place = omega (arith, c .place, ap total next, width-is);
+              rest = rest-on;
               filled = sym (put-cons i v vs numbers k) ∙ ap (λ (q : List ℤ). put i q numbers) (sym values-more) ∙ c .filled;
               mark = mark-more;
             }

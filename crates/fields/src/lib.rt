@@ -43,9 +43,10 @@ fn mark_bit(signed: bool, width: usize, x: u64, i: usize) -> Mark
     0
 }
 
-// The numbers of a type's information fields, whose bits begin at the place `from` of the part.
-pub fn numbers_at(part: &[u8], from: usize, kind: u8) -> Numbers
-    requires { ⌜ (from + total (placesOf kind) ≤ 8 * length (now part)) × (from + total (placesOf kind) < 2 ^ 64) ⌝ }
+// The numbers of a type's information fields, whose bits begin at the place `from` of the part and end before the place `to`. Past the
+// last field all numbers are 0.
+pub fn numbers_at(part: &[u8], from: usize, to: usize, kind: u8) -> Numbers
+    requires { ⌜ (to ≡ from + total (placesOf kind)) × (to ≤ 8 * length (now part)) ⌝ }
     ensures { λ r. ⌜ Decoded kind (drop from (unpack (now (part .entry)))) r ⌝ }
 {
     let row = types::row_of(kind);
@@ -55,7 +56,7 @@ pub fn numbers_at(part: &[u8], from: usize, kind: u8) -> Numbers
     let mut minus: Mark = 0;
     let mut at = from;
     let mut i: usize = 0;
-    while i < PLACES {
+    while at < to {
         let width = widths[i] as usize;
         let signed = signs[i];
         let x = bits::field(part, at, width);
@@ -113,8 +114,15 @@ fn hold(part: &mut [u8], held: Held, width: usize, x: u64) -> Held
 }
 
 // Puts the bits of a type's information fields from the place `from` of the part on.
-pub fn put_numbers(part: &mut [u8], from: usize, kind: u8, numbers: [i64; PLACES], minus: Mark)
-    requires { ⌜ (from + total (placesOf kind) ≤ 8 * length (now part)) × (from + total (placesOf kind) < 2 ^ 64) ⌝ }
+pub fn put_numbers(
+    part: &mut [u8],
+    from: usize,
+    to: usize,
+    kind: u8,
+    numbers: [i64; PLACES],
+    minus: Mark,
+)
+    requires { ⌜ (to ≡ from + total (placesOf kind)) × (to ≤ 8 * length (now part)) ⌝ }
     requires { ⌜ Tested (placesOf kind) numbers minus ⌝ }
     ensures { λ _. ⌜ unpack (now (part .exit))
         ≡ put from (codes (placesOf kind) numbers (markBits markWidth minus)) (unpack (now (part .entry))) ⌝ }
@@ -128,12 +136,14 @@ pub fn put_numbers(part: &mut [u8], from: usize, kind: u8, numbers: [i64; PLACES
         count: 0,
     };
     let mut marks = minus;
+    let mut at = from;
     let mut i: usize = 0;
-    while i < PLACES {
+    while at < to {
         let width = widths[i] as usize;
         let x = code(signs[i], width, numbers[i], marks % 2 == 1);
         held = hold(part, held, width, x);
         marks /= 2;
+        at += width;
         i += 1;
     }
     bits::put_field(part, held.at, held.count, held.word);

@@ -30,16 +30,19 @@ fn raw_at(part: &[u8], from: usize, n: usize) -> [u8; RAW_BYTES]
     raw
 }
 
-// The record of the string of a type at the place `offset`, whose bits the part holds.
-fn decoded(part: &[u8], offset: usize, kind: u8) -> Record
-    requires { ⌜ (offset < 8) × (kind ≡ typeAt (unpack (now part)) offset) × (offset + lengthOf kind ≤ 8 * length (now part)) ⌝ }
+// The record of the string of a type and a length at the place `offset`, whose bits the part holds.
+fn decoded(part: &[u8], offset: usize, kind: u8, long: usize) -> Record
+    requires { ⌜ (offset < 8) × (kind ≡ typeAt (unpack (now part)) offset) × (long ≡ lengthOf kind)
+        × (offset + long ≤ 8 * length (now part)) ⌝ }
     ensures { λ r. ⌜ r ≡ recordAt (unpack (now (part .entry))) offset ⌝ }
 {
     let service = bits::field(part, offset + 18, 32);
-    let fields = fields::numbers_at(part, offset + 50, kind);
+    let n = types::raw_count(kind);
+    let to = offset + long - types::check_count(kind) - n;
+    let fields = fields::numbers_at(part, offset + 50, to, kind);
     let numbers = fields.numbers;
     let minus = fields.minus;
-    let raw = raw_at(part, offset + 50, types::raw_count(kind));
+    let raw = raw_at(part, offset + 50, n);
     let satellite = ((service >> 26) % 64) as u8;
     let signal = ((service >> 25) % 2) as u8;
     let validity = ((service >> 24) % 2) as u8;
@@ -104,7 +107,7 @@ fn checked(part: &[u8], offset: usize, kind: u8, long: usize, place: usize) -> R
     if !types::check_passes(part, offset, long, kind) {
         return refused(Refusal::CheckFails(place));
     }
-    let content = decoded(part, offset, kind);
+    let content = decoded(part, offset, kind, long);
     let tested = records::field_tests(content);
     match tested {
         Answer::Refused(refusal) => refused(refusal),

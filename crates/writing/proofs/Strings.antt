@@ -100,7 +100,8 @@ module _ (r : Record) (holds : Typed r) where
         let q = o + (long - degree) - n in
         let lh = length-append head fields in
         e₃ ∙ ap (λ (k : ℕ). put q (cut 0 k (unpack (r .raw))) u₂) en ∙ ap (put q w) with-fields
-        ∙ put-join o q (head ++ fields) w u₀ (omega (arith, sizes, length-head, length-fields r holds)) (omega (arith, sizes, length-raw r holds))
+        ∙ put-join o q (head ++ fields) w u₀ (omega (arith, sizes, length-head, length-fields r holds))
+        (omega (arith, sizes, length-raw r holds))
         ∙ ap (λ (v : List Bool). put o v u₀) (append-assoc head fields w ∙ append-assoc mark (serviceBits r) (fields ++ w))
 
     length-checked : length (checked r) ≡ long - degree

@@ -50,9 +50,10 @@ fn put_string(part: &mut [u8], offset: usize, r: Record, long: usize)
     let degree = types::check_count(kind);
     let count = long - degree;
     let n = types::raw_count(kind);
+    let to = offset + count - n;
     bits::put_field(part, offset, 50, (format::MARK << 38) + service(r));
-    fields::put_numbers(part, offset + 50, kind, numbers, r.minus);
-    put_raw(part, offset + count - n, raw, n);
+    fields::put_numbers(part, offset + 50, to, kind, numbers, r.minus);
+    put_raw(part, to, raw, n);
     let c = types::check(part, offset, count, kind);
     bits::put_field(part, offset + count, degree, c as u64);
 }

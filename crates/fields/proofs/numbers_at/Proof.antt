@@ -16,17 +16,17 @@ use Rattle.format.proofs.Information.{marks-cover}
 use Rattle.format.specs.Fields.{total}
 use Rattle.format.specs.Types.{places, placesOf}
 use Rattle.types.specs.Rows.{Describes}
-use Rattle.fields.proofs.Decoding.{ReadSoFar, read-start, read-on, read-all}
+use Rattle.fields.proofs.Decoding.{ReadSoFar, read-start, read-on, read-all, left-here}
 use Rattle.fields.proofs.Decoding.{mark-fits, width-here, signed-here, inside-here, small-here}
 use Rattle.fields.proofs.numbers_at.Statement.{statement}
 use Rattle.fields.proofs.numbers_at.Tie as tie
 
 abbrev Inv-loop : tie.InvT-loop
-Inv-loop part from kind widths signs numbers₀ minus₀ at₀ i₀ numbers minus at i =
+Inv-loop part from to kind widths signs numbers₀ minus₀ at₀ i₀ numbers minus at i =
     (i ≤ places) × ReadSoFar (unpack part) from kind numbers minus at i
 
 abbrev μ-loop : tie.MeasureT-loop
-μ-loop part from kind widths signs numbers₀ minus₀ at₀ i₀ numbers minus at i = places - i
+μ-loop part from to kind widths signs numbers₀ minus₀ at₀ i₀ numbers minus at i = places - i
 
 -- In the loop: what was read so far, and where the bits of the field lie.
 module _ (c : tie.In-loop Inv-loop μ-loop) where
@@ -42,8 +42,11 @@ module _ (c : tie.In-loop Inv-loop μ-loop) where
   abbrev bits : List Bool
   bits = unpack (start .args .part .now)
 
-  abbrev whole : ℕ
-  whole = start .args .from + total (placesOf (start .args .kind))
+  abbrev to : ℕ
+  to = start .args .to
+
+  ends : to ≡ start .args .from + total (placesOf (start .args .kind))
+  ends = start .pre .0
 
   abbrev i : ℕ
   i = at-loop .loop .i
@@ -65,10 +68,10 @@ module _ (c : tie.In-loop Inv-loop μ-loop) where
   described = at-row .row-of .ensures
 
   below : i < places
-  below = search needs
+  below = left-here so-far (omega (arith, ends))
 
-  room : whole ≤ length bits
-  room = omega (arith, length-unpack (start .args .part .now), start .pre .0)
+  room : start .args .from + total (placesOf (start .args .kind)) ≤ length bits
+  room = omega (arith, length-unpack (start .args .part .now), ends, start .pre .1)
 
 -- After the field is fetched, its number made and its bit of the mark: what is read then.
 module _ (c : tie.After-mark-bit Inv-loop μ-loop) where
@@ -94,21 +97,21 @@ row-of-requires c κs = search needs
 loop-holds : tie.Need-loop-holds Inv-loop μ-loop
 loop-holds c =
     let a = c .before .before .before .before .args in
-    (omega arith, read-start (unpack (a .part .now)) (a .from) (a .kind) _ refl)
+    (omega arith, read-start (unpack (a .part .now)) (a .from) (a .kind))
 
 array-read-width : tie.Need-array-read-width Inv-loop μ-loop
-array-read-width c = search needs
+array-read-width c = below c
 
 cast-width : tie.Need-cast-width Inv-loop μ-loop
 cast-width c = search needs
 
 array-read-signed : tie.Need-array-read-signed Inv-loop μ-loop
-array-read-signed c = search needs
+array-read-signed c = below c
 
 field-requires : tie.Need-field-requires Inv-loop μ-loop
 field-requires c κs =
     let inside = inside-here (so-far c) (described c) (below c) in
-    (width-here (so-far c) (described c) (below c), omega (arith, inside, start c .pre .0))
+    (width-here (so-far c) (described c) (below c), omega (arith, inside, ends c, start c .pre .1))
 
 number-of-requires : tie.Need-number-of-requires Inv-loop μ-loop
 number-of-requires c κs =
@@ -122,7 +125,7 @@ mul-numbers : tie.Need-mul-numbers Inv-loop μ-loop
 mul-numbers c = search needs
 
 array-set-from-numbers : tie.Need-array-set-from-numbers Inv-loop μ-loop
-array-set-from-numbers c = search needs
+array-set-from-numbers c = below (c .before .before)
 
 mark-bit-requires : tie.Need-mark-bit-requires Inv-loop μ-loop
 mark-bit-requires c κs =
@@ -139,19 +142,22 @@ add-at : tie.Need-add-at Inv-loop μ-loop
 add-at c =
     let p = at-place c in
     let inside = inside-here (so-far p) (described p) (below p) in
-    record { fits = omega (arith, inside, start p .pre .1) }
+    record { fits = omega (arith, inside, ends p) }
 
 add-i : tie.Need-add-i Inv-loop μ-loop
 add-i c = search needs
 
 loop-less : tie.Need-loop-less Inv-loop μ-loop
-loop-less c = search needs
+loop-less c = omega (arith, below (at-place c))
 
 loop-again : tie.Need-loop-again Inv-loop μ-loop
-loop-again c = (omega arith, read-more c)
+loop-again c = (omega (arith, below (at-place c)), read-more c)
 
 returns : tie.Need-returns Inv-loop μ-loop
-returns c = read-all _ (c .before .loop .i) (c .before .loop .inv .1) (omega arith)
+returns c =
+    let q = c .before in
+    let s = q .before .before .before .before .before in
+    read-all (q .loop .inv .1) (q .loop .inv .0) (omega (arith, s .pre .0))
 
 pub numbers-at-spec : {M : Type 1} → statement M
 numbers-at-spec =

@@ -15,7 +15,7 @@ use Rattle.bits.specs.Bits.{unpack}
 use Rattle.format.specs.Fields.{total}
 use Rattle.format.specs.Types.{places, placesOf}
 use Rattle.types.specs.Rows.{Describes}
-use Rattle.fields.proofs.Coding.{WrittenSoFar, odd-seen, written-start, written-same, written-at, written-all}
+use Rattle.fields.proofs.Coding.{WrittenSoFar, put-at-same, odd-seen, written-start, written-same, written-all, left-here}
 use Rattle.fields.proofs.Coding.{narrow-here, room-here, code-asks, x-fits, written-on}
 use Rattle.fields.proofs.Holding.{held-none}
 use Rattle.fields.specs.Coded.{afterHeld}
@@ -23,12 +23,12 @@ use Rattle.fields.proofs.put_numbers.Statement.{statement}
 use Rattle.fields.proofs.put_numbers.Tie as tie
 
 abbrev Inv-loop : tie.InvT-loop
-Inv-loop part₀ from kind minus numbers widths signs held₀ marks₀ i₀ part held marks i =
-    (i ≤ places) × (length part ≡ length part₀) × (held .count ≤ 64) × (held .word < 2 ^ held .count)
-    × WrittenSoFar from kind minus numbers (unpack part₀) (afterHeld held (unpack part)) (held .at + held .count) marks i
+Inv-loop part₀ from to kind minus numbers widths signs held₀ marks₀ at₀ i₀ part held marks at i =
+    (i ≤ places) × (length part ≡ length part₀) × (held .count ≤ 64) × (held .word < 2 ^ held .count) × (held .at + held .count ≡ at)
+    × WrittenSoFar from kind minus numbers (unpack part₀) (afterHeld held (unpack part)) at marks i
 
 abbrev μ-loop : tie.MeasureT-loop
-μ-loop part₀ from kind minus numbers widths signs held₀ marks₀ i₀ part held marks i = places - i
+μ-loop part₀ from to kind minus numbers widths signs held₀ marks₀ at₀ i₀ part held marks at i = places - i
 
 -- In the loop: what is written so far, or held.
 module _ (c : tie.At-loop Inv-loop μ-loop) where
@@ -39,20 +39,26 @@ module _ (c : tie.At-loop Inv-loop μ-loop) where
   start = at-row .before .before
 
   abbrev numbers : List ℤ
-  numbers = start .args .t4
+  numbers = start .args .t5
 
   abbrev i : ℕ
   i = c .loop .i
 
   abbrev at : ℕ
-  at = c .loop .held .at + c .loop .held .count
+  at = c .loop .at
+
+  held-at : c .loop .held .at + c .loop .held .count ≡ at
+  held-at = c .loop .inv .4
+
+  ends : start .args .to ≡ start .args .from + total (placesOf (start .args .kind))
+  ends = start .pre .0 .0
 
   -- what is written of the type's fields
   abbrev Written : List Bool → ℕ → ℕ → ℕ → Type 0
   Written = WrittenSoFar (start .args .from) (start .args .kind) (start .args .minus) numbers (unpack (start .args .part .now))
 
   so-far : Written (afterHeld (c .loop .held) (unpack (c .loop .part))) at (c .loop .marks) i
-  so-far = c .loop .inv .4
+  so-far = c .loop .inv .5
 
   described : Describes (placesOf (start .args .kind)) (at-row .row-of .result)
   described = at-row .row-of .ensures
@@ -60,13 +66,18 @@ module _ (c : tie.At-loop Inv-loop μ-loop) where
   long : length numbers ≡ places
   long = search needs
 
+-- In the loop: a field is left.
+module _ (c : tie.In-loop Inv-loop μ-loop) where
+  below : i (c .before) < places
+  below = left-here (so-far (c .before)) (omega (arith, ends (c .before)))
+
 -- At the number at hand.
 module _ (c : tie.After-code-arg Inv-loop μ-loop) where
   abbrev at-loop : tie.At-loop Inv-loop μ-loop
   at-loop = c .before .before
 
-  below : i at-loop < places
-  below = search needs
+  below-here : i at-loop < places
+  below-here = below (c .before)
 
   number : toZ w64 (ofZ w64 (getD (numbers at-loop) (i at-loop) (pos 0))) ≡ getD (numbers at-loop) (i at-loop) (pos 0)
   number = toZ-ofZ {w = w64} (record { sfits = c .code-arg .given })
@@ -80,46 +91,60 @@ loop-holds : tie.Need-loop-holds Inv-loop μ-loop
 loop-holds c =
     let s = c .before .before .before .before in
     let u = unpack (s .args .part .now) in
-    let l : length (s .args .t4) ≡ places = search needs in
+    let l : length (s .args .t5) ≡ places = search needs in
     let h = length-unpack (s .args .part .now) in
-    let room : s .args .from + total (placesOf (s .args .kind)) ≤ length u = omega (arith, h, s .pre .0 .0) in
-    let g = written-start room l (s .pre .1) in
-    (omega arith, search needs, omega arith, omega arith, written-at (written-same g (held-none (s .args .from) u)) (omega arith))
+    let room : s .args .from + total (placesOf (s .args .kind)) ≤ length u = omega (arith, h, s .pre .0 .0, s .pre .0 .1) in (
+      omega arith,
+      search needs,
+      omega arith,
+      omega arith,
+      omega arith,
+      written-same (written-start room l (s .pre .1)) (held-none (s .args .from) u),
+    )
 
 array-read-width : tie.Need-array-read-width Inv-loop μ-loop
-array-read-width c = search needs
+array-read-width c = below c
 
 cast-width : tie.Need-cast-width Inv-loop μ-loop
 cast-width c = search needs
 
 array-read-code : tie.Need-array-read-code Inv-loop μ-loop
-array-read-code c = search needs
+array-read-code c = below c
 
 mul-code : tie.Need-mul-code Inv-loop μ-loop
 mul-code c = search needs
 
 array-copy-out-code : tie.Need-array-copy-out-code Inv-loop μ-loop
-array-copy-out-code c = search needs
+array-copy-out-code c = below c
 
 code-requires : tie.Need-code-requires Inv-loop μ-loop
 code-requires c κs =
     let q = at-loop c in
-    code-asks (so-far q) (described q) (below c) (long q) (number c) (odd-seen (q .loop .marks))
+    code-asks (so-far q) (described q) (below-here c) (long q) (number c) (odd-seen (q .loop .marks))
 
 hold-requires : tie.Need-hold-requires Inv-loop μ-loop
 hold-requires c κs =
     let k = c .before .before in
     let q = at-loop k in
-    let narrow = narrow-here (so-far q) (described q) (below k) in
-    let room = room-here (so-far q) (described q) (below k) in
-    let small = x-fits (so-far q) (described q) (below k) (long q) (number k) (odd-seen (q .loop .marks)) (c .before .code .ensures) in
-    ((q .loop .inv .2, q .loop .inv .3, narrow, small), (omega (arith, room, start q .pre .0 .0), omega (arith, room, start q .pre .0 .1)))
+    let narrow = narrow-here (so-far q) (described q) (below-here k) in
+    let room = room-here (so-far q) (described q) (below-here k) in
+    let small = x-fits (so-far q) (described q) (below-here k) (long q) (number k) (odd-seen (q .loop .marks)) (c .before .code .ensures) in
+    let on = held-at q in (
+      (q .loop .inv .2, q .loop .inv .3, narrow, small),
+      (omega (arith, room, on, ends q, start q .pre .0 .1), omega (arith, room, on, ends q)),
+    )
+
+add-at : tie.Need-add-at Inv-loop μ-loop
+add-at c =
+    let k = c .before .before .before .before .before in
+    let q = at-loop k in
+    record { fits = omega (arith, room-here (so-far q) (described q) (below-here k), ends q) }
 
 add-i : tie.Need-add-i Inv-loop μ-loop
 add-i c = search needs
 
 loop-less : tie.Need-loop-less Inv-loop μ-loop
-loop-less c = search needs
+loop-less c = omega (arith, below-here (c .before .before .before .before .before))
 
 loop-again : tie.Need-loop-again Inv-loop μ-loop
 loop-again c =
@@ -128,14 +153,16 @@ loop-again c =
     let q = at-loop k in
     let e = f .hold .ensures in
     let code = f .before .before .code .ensures in
-    let on = written-on (so-far q) (described q) (below k) (long q) (number k) (odd-seen (q .loop .marks)) code (e .1) in
-    (omega arith, search needs, e .0 .1, e .0 .2, written-at on (e .0 .0))
+    let z = put-at-same _ _ (held-at q) (e .1) in
+    let on = written-on (so-far q) (described q) (below-here k) (long q) (number k) (odd-seen (q .loop .marks)) code z in
+    (omega (arith, below-here k), search needs, e .0 .1, e .0 .2, omega (arith, e .0 .0, held-at q), on)
 
 put-field-requires : tie.Need-put-field-requires Inv-loop μ-loop
 put-field-requires c κs =
     let q = c .before .before in
     let p = so-far q .place in
-    (q .loop .inv .2, q .loop .inv .3, omega (arith, p, start q .pre .0 .0), omega (arith, p, start q .pre .0 .1))
+    let h = held-at q in
+    (q .loop .inv .2, q .loop .inv .3, omega (arith, p, h, ends q, start q .pre .0 .1), omega (arith, p, h, ends q))
 
 same-length : tie.Need-same-length Inv-loop μ-loop
 same-length c = search needs
@@ -144,7 +171,7 @@ returns : tie.Need-returns Inv-loop μ-loop
 returns c =
     let f = c .before .before in
     let q = f .before .before .before in
-    f .put-field .ensures ∙ written-all (i q) (so-far q) (omega arith)
+    f .put-field .ensures ∙ written-all (so-far q) (omega (arith, ends q))
 
 pub put-numbers-spec : {M : Type 1} → statement M
 put-numbers-spec =
@@ -161,6 +188,7 @@ put-numbers-spec =
     array-copy-out-code
     code-requires
     hold-requires
+    add-at
     add-i
     loop-less
     loop-again

@@ -42,7 +42,8 @@ module _ (c : tie.After-field-tests) where
 
   tests : (b : Answer) → c .field-tests .result ≡ b
       → beside b (c .before .decoded .result) ≡ checked (u d) (o d) (at-start d .args .place)
-  tests b e = fields-tested (u d) (o d) _ (check-is d) b (not-false _ (passes .if1 .left)) (c .before .decoded .ensures) (c .field-tests .ensures) e
+  tests b e =
+      fields-tested (u d) (o d) _ (check-is d) b (not-false _ (passes .if1 .left)) (c .before .decoded .ensures) (c .field-tests .ensures) e
 
 -- ---- what the code asks, in its order
 
@@ -61,7 +62,7 @@ returns c =
     c .refused .ensures ∙ check-fails (u d) (o d) _ (check-is d) (not-true _ (c .before .if1 .taken))
 
 decoded-requires : tie.Need-decoded-requires
-decoded-requires c κs = let p = at-start (c .before) .pre in (p .0, p .1, omega (arith, p .2, p .3))
+decoded-requires c κs = at-start (c .before) .pre
 
 field-tests-requires : tie.Need-field-tests-requires
 field-tests-requires c κs = search needs

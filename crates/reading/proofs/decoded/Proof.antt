@@ -13,15 +13,15 @@ use Rattle.format.proofs.Information.{string-filled, raw-few}
 use Rattle.format.specs.Fields.{total}
 use Rattle.format.specs.Records.{rawBytes}
 use Rattle.format.specs.Strings.{typeAt, lengthOf}
-use Rattle.format.specs.Types.{placesOf, rawCount}
-use Rattle.reading.proofs.Service.{service-room, fields-room, raw-room, decoded-is}
+use Rattle.format.specs.Types.{placesOf}
+use Rattle.reading.proofs.Service.{decoded-is}
 use Rattle.reading.proofs.decoded.Statement.{statement}
 use Rattle.reading.proofs.decoded.Tie as tie
 
--- from the start: the string's bits, and that they are there
-module _ (c : tie.After-shared-slice-known) where
+-- after `field`: the service fields are fetched
+module _ (c : tie.After-field) where
   abbrev at-start : tie.Start
-  at-start = c .before
+  at-start = c .before .before
 
   abbrev u : List Bool
   u = unpack (at-start .args .part .now)
@@ -38,14 +38,30 @@ module _ (c : tie.After-shared-slice-known) where
   kind-is : kind ≡ typeAt u o
   kind-is = at-start .pre .1
 
+  long-is : at-start .args .long ≡ lengthOf kind
+  long-is = at-start .pre .2
+
+  short : at-start .args .long ≤ 375
+  short = omega (arith, long-is, length-unit kind)
+
   bits : length u ≡ 8 * length (at-start .args .part .now)
   bits = length-unpack (at-start .args .part .now)
 
   inside : o + lengthOf (typeAt u o) ≤ length u
-  inside = omega (arith, at-start .pre .2, ap lengthOf kind-is, bits)
+  inside = omega (arith, at-start .pre .3, long-is, ap lengthOf kind-is, bits)
 
-  filled : 50 + total (placesOf kind) + rawCount kind ≤ 375
-  filled = omega (arith, string-filled kind, length-unit kind)
+-- after `check_count`: the fields and the raw bits fill what the service fields and the check bits leave
+module _ (c : tie.After-check-count) where
+  abbrev s : tie.After-field
+  s = c .before .before
+
+  filled : 50 + total (placesOf (kind s)) + c .before .raw-count .result + c .check-count .result ≡ at-start s .args .long
+  filled = omega (arith, string-filled (kind s), c .before .raw-count .ensures, c .check-count .ensures, long-is s)
+
+-- after `numbers_at`
+module _ (c : tie.After-numbers-at) where
+  abbrev sizes : tie.After-check-count
+  sizes = c .before
 
 -- ---- what the code asks, in its order
 
@@ -53,29 +69,44 @@ add-field : tie.Need-add-field
 add-field c = search needs
 
 field-requires : tie.Need-field-requires
-field-requires c κs = (omega arith, omega (arith, service-room (u c) (o c) (inside c), bits c))
+field-requires c κs =
+    let s = c .before in
+    let b = length-unpack (s .args .part .now) in
+    (omega arith, omega (arith, length-unit (s .args .kind), s .pre .2, s .pre .3, b))
+
+raw-count-requires : tie.Need-raw-count-requires
+raw-count-requires c κs = search needs
+
+add-to : tie.Need-add-to
+add-to c = omega (arith, short (c .before), near (c .before))
+
+check-count-requires : tie.Need-check-count-requires
+check-count-requires c κs = search needs
+
+sub-to : tie.Need-sub-to
+sub-to c = omega (arith, filled c)
+
+sub-to-2 : tie.Need-sub-to-2
+sub-to-2 c = omega (arith, filled c)
 
 add-numbers-at : tie.Need-add-numbers-at
 add-numbers-at c = search needs
 
 numbers-at-requires : tie.Need-numbers-at-requires
-numbers-at-requires c κs =
-    let s = c .before in
-    let k = ap (λ (t : ℕ). total (placesOf t)) (kind-is s) in
-    (omega (arith, fields-room (u s) (o s) (inside s), bits s), omega (arith, filled s, near s))
+numbers-at-requires c κs = (omega (arith, filled c), omega (arith, filled c, at-start (s c) .pre .3))
 
 add-raw-at : tie.Need-add-raw-at
 add-raw-at c = search needs
 
-raw-count-requires : tie.Need-raw-count-requires
-raw-count-requires c κs = search needs
-
 raw-at-requires : tie.Need-raw-at-requires
 raw-at-requires c κs =
-    let s = c .before .before .before .before in
-    let k = c .raw-count .ensures in
-    let t = ap rawCount (kind-is s) in
-    (omega (arith, raw-few (kind s)), omega (arith, raw-room (u s) (o s) (inside s), bits s), omega (arith, filled s, near s))
+    let k = sizes (c .before) in
+    let t = s k in (
+      omega (arith, raw-few (kind t), k .before .raw-count .ensures),
+      omega (arith, filled k, at-start t .pre .3),
+      omega
+          (arith, filled k, short t, near t),
+    )
 
 cast-satellite : tie.Need-cast-satellite
 cast-satellite c = search needs
@@ -103,11 +134,12 @@ cast-time c = search needs
 
 returns : tie.Need-returns
 returns c =
-    let n = c .before .before .before in
-    let s = n .before .before in
-    decoded-is (u s) (o s) (inside s) _ (n .before .field .ensures) _ _ _ _ (kind-is s) (n .numbers-at .ensures .numbers)
+    let n = c .before .before in
+    let k = sizes n in
+    let t = s k in
+    decoded-is (u t) (o t) (inside t) _ (t .field .ensures) _ _ _ _ (kind-is t) (n .numbers-at .ensures .numbers)
     (n .numbers-at .ensures .mark)
-    (c .raw-at .ensures ∙ ap (λ (k : ℕ). put 0 (pack (cut (o s + 50) k (u s))) (replicate rawBytes 0)) (c .before .raw-count .ensures))
+    (c .raw-at .ensures ∙ ap (λ (m : ℕ). put 0 (pack (cut (o t + 50) m (u t))) (replicate rawBytes 0)) (k .before .raw-count .ensures))
 
 pub decoded-spec : {M : Type 1} → statement M
 decoded-spec =
@@ -115,10 +147,14 @@ decoded-spec =
     (tie.spec
     add-field
     field-requires
+    raw-count-requires
+    add-to
+    check-count-requires
+    sub-to
+    sub-to-2
     add-numbers-at
     numbers-at-requires
     add-raw-at
-    raw-count-requires
     raw-at-requires
     cast-satellite
     cast-signal

@@ -111,6 +111,12 @@ sub-count c =
 raw-count-requires : tie.Need-raw-count-requires
 raw-count-requires c κs = search needs
 
+add-to : tie.Need-add-to
+add-to c = omega (arith, pieces c, short c, near c)
+
+sub-to : tie.Need-sub-to
+sub-to c = omega (arith, pieces c)
+
 service-requires : tie.Need-service-requires
 service-requires c κs = fields-pass _ (at-start (c .before) .pre .3)
 
@@ -128,13 +134,8 @@ add-put-numbers c = search needs
 
 put-numbers-requires : tie.Need-put-numbers-requires
 put-numbers-requires c κs =
-    let s = sizes (c .before .before .before) in ((omega (arith, pieces s, room s), omega (arith, pieces s, short s, near s)), tested (r s) (at-start s .pre .3))
-
-add-put-raw : tie.Need-add-put-raw
-add-put-raw c = let s = sizes (head-put (c .before .before .before)) in omega (arith, pieces s, short s, near s)
-
-sub-put-raw : tie.Need-sub-put-raw
-sub-put-raw c = let s = sizes (head-put (c .before .before .before)) in omega (arith, pieces s)
+    let s =
+    sizes (c .before .before .before) in ((omega (arith, pieces s), omega (arith, pieces s, room s)), tested (r s) (at-start s .pre .3))
 
 put-raw-requires : tie.Need-put-raw-requires
 put-raw-requires c κs =
@@ -184,13 +185,13 @@ put-string-spec =
     check-count-requires
     sub-count
     raw-count-requires
+    add-to
+    sub-to
     service-requires
     add-put-field
     put-field-requires
     add-put-numbers
     put-numbers-requires
-    add-put-raw
-    sub-put-raw
     put-raw-requires
     check-requires
     add-put-field-2
