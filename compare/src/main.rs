@@ -16,10 +16,11 @@ mod run;
 mod shrink;
 
 use random::Random;
-use run::Run;
-use std::collections::BTreeMap;
+use run::{require_numbers, Run, Seen};
 use std::env;
 use std::process::exit;
+use std::sync::atomic::{AtomicUsize, Ordering};
+use std::thread;
 
 fn main() {
     let arguments: Vec<String> = env::args().skip(1).collect();
@@ -45,22 +46,44 @@ fn wrong_use() -> ! {
     exit(2)
 }
 
-/// Runs every group.
+/// Runs every group, as many at once as there are cores.
 fn compare(long: usize) {
-    let mut run = Run {
-        random: Random::new(0),
-        long,
-        cases: 0,
-        seen: BTreeMap::new(),
-    };
+    let next = AtomicUsize::new(0);
+    let cores = thread::available_parallelism().map_or(1, |cores| cores.get());
+    let mut runs: Vec<(usize, Run)> = thread::scope(|scope| {
+        let threads: Vec<_> = (0..cores)
+            .map(|_| scope.spawn(|| groups_from(&next, long)))
+            .collect();
+        let ended = threads.into_iter().map(|thread| thread.join().unwrap());
+        ended.flatten().collect()
+    });
+    runs.sort_by_key(|(place, _)| *place);
+    let mut seen = Seen::new();
     let mut total = 0;
-    for (place, (name, group)) in groups::ALL.iter().enumerate() {
-        run.random = Random::new(place as u64);
-        run.cases = 0;
-        group(&mut run);
-        println!("{name}: {}", run.cases);
+    for (place, run) in runs {
+        println!("{}: {}", groups::ALL[place].0, run.cases);
         total += run.cases;
+        run.add_numbers(&mut seen);
     }
-    run.require_numbers();
+    require_numbers(&seen);
     println!("total: {total} cases compared, no difference");
+}
+
+/// Runs groups that no other thread has begun, until none is left.
+fn groups_from(next: &AtomicUsize, long: usize) -> Vec<(usize, Run)> {
+    let mut runs = Vec::new();
+    loop {
+        let place = next.fetch_add(1, Ordering::Relaxed);
+        let Some((_, group)) = groups::ALL.get(place) else {
+            return runs;
+        };
+        let mut run = Run {
+            random: Random::new(place as u64),
+            long,
+            cases: 0,
+            seen: Seen::new(),
+        };
+        group(&mut run);
+        runs.push((place, run));
+    }
 }

@@ -13,9 +13,11 @@ pub struct Run {
     pub long: usize,
     /// Cases compared so far in the group.
     pub cases: u64,
-    /// For each function the numbers that it should answer, and those that it has.
-    pub seen: BTreeMap<&'static str, (&'static [u64], BTreeSet<u64>)>,
+    pub seen: Seen,
 }
+
+/// For each function the numbers that it should answer, and those that it has.
+pub type Seen = BTreeMap<&'static str, (&'static [u64], BTreeSet<u64>)>;
 
 impl Run {
     /// Compares one case; the outcome is the same on both sides.
@@ -51,12 +53,23 @@ impl Run {
         }
     }
 
-    /// Stops unless each function has answered all its numbers and no others.
-    pub fn require_numbers(&mut self) {
-        for (name, (numbers, seen)) in std::mem::take(&mut self.seen) {
-            self.require(seen.iter().eq(numbers), || {
-                println!("{name}: answers {seen:?}, not {numbers:?}");
-            });
+    /// Adds the numbers that the functions have answered in this run.
+    pub fn add_numbers(self, all: &mut Seen) {
+        for (name, (numbers, seen)) in self.seen {
+            all.entry(name)
+                .or_insert((numbers, BTreeSet::new()))
+                .1
+                .extend(seen);
+        }
+    }
+}
+
+/// Stops unless each function has answered all its numbers and no others.
+pub fn require_numbers(all: &Seen) {
+    for (name, (numbers, seen)) in all {
+        if !seen.iter().eq(*numbers) {
+            println!("{name}: answers {seen:?}, not {numbers:?}");
+            exit(1);
         }
     }
 }
