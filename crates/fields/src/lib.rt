@@ -25,7 +25,7 @@ fn number_of(signed: bool, width: usize, x: u64) -> i64
     ensures { λ r. ⌜ r ≡ numberOf signed width x ⌝ }
 {
     if signed {
-        return bits::signed(x, width);
+        return signs::signed(x, width);
     }
     x as i64
 }
@@ -36,7 +36,7 @@ fn mark_bit(signed: bool, width: usize, x: u64, i: usize) -> Mark
     ensures { λ r. ⌜ r ≡ markBit signed width x i ⌝ }
 {
     if signed {
-        if bits::is_minus_zero(x, width) {
+        if signs::is_minus_zero(x, width) {
             return 1 << i;
         }
     }
@@ -75,7 +75,7 @@ fn code(signed: bool, width: usize, v: i64, minus: bool) -> u64
     ensures { λ r. ⌜ r ≡ number (codeOf signed width v minus) ⌝ }
 {
     if signed {
-        return bits::sign_magnitude(v, minus, width);
+        return signs::sign_magnitude(v, minus, width);
     }
     v as u64
 }
@@ -113,7 +113,7 @@ fn hold(part: &mut [u8], held: Held, width: usize, x: u64) -> Held
     }
 }
 
-// Puts the bits of a type's information fields from the place `from` of the part on.
+// Puts the bits of a type's information fields from the place `from` of the part on. They end before the place `to`.
 pub fn put_numbers(
     part: &mut [u8],
     from: usize,

@@ -108,7 +108,7 @@ fn checked(part: &[u8], offset: usize, kind: u8, long: usize, place: usize) -> R
         return refused(Refusal::CheckFails(place));
     }
     let content = decoded(part, offset, kind, long);
-    let tested = records::field_tests(content);
+    let tested = ranges::field_tests(content);
     match tested {
         Answer::Refused(refusal) => refused(refusal),
         Answer::Passed => Reading {

@@ -1,109 +1,17 @@
-// The tests of a record: the ranges of its fields, its unused places, its minus-zero mark.
+// The tests of a record: those of its fields, of its unused places and raw bits, and of its minus-zero mark.
 use format::Answer;
 use format::Mark;
 use format::PLACES;
 use format::Record;
 use format::Refusal;
 ghost use mathlib.Core.Path.{_≡_};
-ghost use mathlib.Core.Bool.{cond, not, _&&_, _||_};
-ghost use lib.Dec.{eqb, leb};
-ghost use lib.Signed.{leZ};
+ghost use mathlib.Core.Bool.{not, _&&_, _||_};
+ghost use lib.Dec.{eqb};
 ghost use Rattle.bits.specs.Bits.{odd};
-ghost use Rattle.format.specs.declared.Answer.the-variants.{Refused};
-ghost use Rattle.format.specs.declared.Refusal.the-variants.{OutOfRange, OtherOrbit, NotZero};
+ghost use Rattle.format.specs.declared.Refusal.the-variants.{NotZero};
 ghost use Rattle.format.specs.Tests.{when};
-ghost use Rattle.format.specs.Records.{ranges, numbersOf, isZero, fieldTests, unused, stray, markBits, recordTests};
-ghost use Rattle.format.specs.Types.{markWidth, placesOf, fieldsOf};
-ghost use Rattle.records.specs.Takes.{takes};
-
-// The place of the orbit in a record of type 20: field 10.
-const ORBIT: usize = 0;
-
-// Whether a number is in a range.
-pub fn between(least: i64, v: i64, most: i64) -> bool
-    ensures { λ r. ⌜ r ≡ leZ least v && leZ v most ⌝ }
-{
-    if least <= v { v <= most } else { false }
-}
-
-// Whether a place takes a number: of width 0, one that its type does not use, it takes any.
-fn takes(width: u8, least: i64, most: i64, v: i64) -> bool
-    ensures { λ r. ⌜ r ≡ takes width least most v ⌝ }
-{
-    if width == 0 {
-        return true;
-    }
-    between(least, v, most)
-}
-
-// The first of fields 10 on that is out of range.
-fn number_ranges(kind: u8, numbers: [i64; PLACES]) -> Answer
-    ensures { λ a. ⌜ a ≡ ranges (placesOf kind) numbers 10 ⌝ }
-{
-    let row = types::row_of(kind);
-    let widths = row.widths;
-    let least = row.least;
-    let most = row.most;
-    let mut i: usize = 0;
-    while i < PLACES {
-        if !takes(widths[i], least[i], most[i], numbers[i]) {
-            return Answer::Refused(Refusal::OutOfRange(10 + i));
-        }
-        i += 1;
-    }
-    Answer::Passed
-}
-
-// What the fields past this one answer, if its number is from low to high; else that it is out of range.
-fn limit(field: usize, v: u16, low: u16, high: u16, past: Answer) -> Answer
-    ensures { λ a. ⌜ a ≡ cond (leb low v && leb v high) past (Refused (OutOfRange field)) ⌝ }
-{
-    if low <= v {
-        if v <= high {
-            return past;
-        }
-    }
-    Answer::Refused(Refusal::OutOfRange(field))
-}
-
-// The first of all fields that is out of range, found from the last to the first.
-fn all_ranges(r: Record) -> Answer
-    ensures { λ a. ⌜ a ≡ ranges (fieldsOf (r .kind)) (numbersOf r) 1 ⌝ }
-{
-    let numbers = r.numbers;
-    let from10 = number_ranges(r.kind, numbers);
-    let from9 = limit(9, r.time, 0, 43199, from10);
-    let from8 = limit(8, r.next as u16, 0, 1, from9);
-    let from7 = limit(7, r.correction as u16, 0, 3, from8);
-    let from6 = limit(6, r.attitude as u16, 0, 1, from7);
-    let from5 = limit(5, r.call as u16, 0, 15, from6);
-    let from4 = limit(4, r.validity as u16, 0, 1, from5);
-    let from3 = limit(3, r.signal as u16, 0, 1, from4);
-    let from2 = limit(2, r.satellite as u16, 1, 63, from3);
-    limit(1, r.kind as u16, 0, 63, from2)
-}
-
-// Type 20 is read and written for orbit 00 only.
-fn orbit_test(kind: u8, orbit: i64) -> Answer
-    ensures { λ a. ⌜ a ≡ when (eqb kind 20 && not (isZero orbit)) OtherOrbit ⌝ }
-{
-    if kind == 20 {
-        if orbit != 0 {
-            return Answer::Refused(Refusal::OtherOrbit);
-        }
-    }
-    Answer::Passed
-}
-
-// The tests of a record's fields: 7, then 8.
-pub fn field_tests(r: Record) -> Answer
-    ensures { λ a. ⌜ a ≡ fieldTests r ⌝ }
-{
-    let numbers = r.numbers;
-    let ranges = all_ranges(r);
-    let orbit = orbit_test(r.kind, numbers[ORBIT]);
-    answers::first(ranges, orbit)
-}
+ghost use Rattle.format.specs.Records.{isZero, unused, stray, markBits, recordTests};
+ghost use Rattle.format.specs.Types.{markWidth, placesOf};
 
 // Whether a number that is not 0 is at a place that is not used, one of width 0.
 fn misplaced(width: u8, v: i64) -> bool
@@ -194,7 +102,7 @@ pub fn record_tests(r: Record) -> Answer
 {
     let numbers = r.numbers;
     let raw = r.raw;
-    let fields = field_tests(r);
+    let fields = ranges::field_tests(r);
     let count = types::raw_count(r.kind);
     let zeros = zero_test(unused(r.kind, numbers), bits::zero_from(&raw, count));
     let marks = marks_test(r.kind, numbers, r.minus);

@@ -100,7 +100,7 @@ pub fn scaled(r: Record, field: usize) -> Value
 pub fn accuracy(factor: i64) -> Outcome
     ensures { λ a. ⌜ a ≡ accuracy factor ⌝ }
 {
-    if !records::between(-15, factor, 15) {
+    if !ranges::between(-15, factor, 15) {
         return Outcome::NotGiven(Refusal::OutOfRange(19));
     }
     let i = (factor + 15) as usize;
@@ -114,10 +114,10 @@ pub fn accuracy(factor: i64) -> Outcome
 pub fn day_count(n4: i64, nt: i64) -> Outcome
     ensures { λ d. ⌜ d ≡ dayCount n4 nt ⌝ }
 {
-    if !records::between(1, n4, types::rows::INTERVALS) {
+    if !ranges::between(1, n4, types::rows::INTERVALS) {
         return Outcome::NotGiven(Refusal::OutOfRange(10));
     }
-    if !records::between(1, nt, types::rows::INTERVAL_DAYS) {
+    if !ranges::between(1, nt, types::rows::INTERVAL_DAYS) {
         return Outcome::NotGiven(Refusal::OutOfRange(11));
     }
     let interval = n4 as usize;

@@ -1,5 +1,5 @@
 -- `records::bears`: by its test, on a number that fits 64 bits. Assumes nothing.
-use Rattle.records.proofs.Laws.{zero-seen}
+use Rattle.ranges.proofs.Laws.{zero-seen}
 use Rattle.records.proofs.bears.Statement.{statement}
 use Rattle.records.proofs.bears.Tie as tie
 

@@ -1,6 +1,6 @@
 -- `records::misplaced`: by its test, on a number that fits 64 bits. Assumes nothing.
 use borrow.Author.Tests.{eq-eqb, ne-eqb}
-use Rattle.records.proofs.Laws.{zero-seen}
+use Rattle.ranges.proofs.Laws.{zero-seen}
 use Rattle.records.proofs.misplaced.Statement.{statement}
 use Rattle.records.proofs.misplaced.Tie as tie
 

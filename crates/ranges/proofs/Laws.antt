@@ -25,7 +25,7 @@ use Rattle.format.specs.Records.{ranges, isZero}
 use Rattle.format.specs.Types.{places, placesOf}
 use Rattle.types.specs.declared.rows.Row.{Row}
 use Rattle.types.specs.Rows.{Describes}
-use Rattle.records.specs.Takes.{takes}
+use Rattle.ranges.specs.Takes.{takes}
 use Rattle.types.proofs.Table.{unused-at, width-at, least-at, most-at}
 
 -- the machine's test of a number for zero

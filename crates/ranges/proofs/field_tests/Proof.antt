@@ -1,4 +1,4 @@
--- `records::field_tests`: 7 and 8 in their order, of the record's own orbit. Assumes nothing.
+-- `ranges::field_tests`: 7 and 8 in their order, of the record's own orbit. Assumes nothing.
 use mathlib.Core.Path.{ap₂, _∙_}
 use lib.IntN.{pos}
 use lib.ListN.{getD}
@@ -7,8 +7,8 @@ use mir.Syntax.{w64}
 use borrow.Author.Needs.{needs}
 use Rattle.format.specs.Tests.{_then_}
 use Rattle.format.specs.Records.{fieldTests}
-use Rattle.records.proofs.field_tests.Statement.{statement}
-use Rattle.records.proofs.field_tests.Tie as tie
+use Rattle.ranges.proofs.field_tests.Statement.{statement}
+use Rattle.ranges.proofs.field_tests.Tie as tie
 
 all-ranges-requires : tie.Need-all-ranges-requires
 all-ranges-requires c κs = search needs

@@ -1,4 +1,4 @@
--- `records::number_ranges`: the places from i on answer what all answer. Assumes nothing.
+-- `ranges::number_ranges`: the places from i on answer what all answer. Assumes nothing.
 use mathlib.Core.Path.{_≡_, refl, _∙_}
 use mathlib.Core.Bool.{true, false}
 use mathlib.Core.List.{List}
@@ -17,9 +17,9 @@ use Rattle.format.specs.Fields.{Field}
 use Rattle.format.specs.Records.{ranges}
 use Rattle.format.specs.Types.{places, placesOf}
 use Rattle.types.specs.declared.rows.Row.{Row}
-use Rattle.records.proofs.Laws.{row-takes, row-refuses, ranges-end}
-use Rattle.records.proofs.number_ranges.Statement.{statement}
-use Rattle.records.proofs.number_ranges.Tie as tie
+use Rattle.ranges.proofs.Laws.{row-takes, row-refuses, ranges-end}
+use Rattle.ranges.proofs.number_ranges.Statement.{statement}
+use Rattle.ranges.proofs.number_ranges.Tie as tie
 
 abbrev Inv-loop : tie.InvT-loop
 Inv-loop kind numbers widths least most i₀ i =

@@ -1,9 +1,9 @@
--- `records::orbit_test`: by its two tests. Assumes nothing.
+-- `ranges::orbit_test`: by its two tests. Assumes nothing.
 use borrow.Author.Tests.{eq-eqb, ne-eqb}
 use Rattle.format.specs.Tests.{when}
-use Rattle.records.proofs.Laws.{zero-seen}
-use Rattle.records.proofs.orbit_test.Statement.{statement}
-use Rattle.records.proofs.orbit_test.Tie as tie
+use Rattle.ranges.proofs.Laws.{zero-seen}
+use Rattle.ranges.proofs.orbit_test.Statement.{statement}
+use Rattle.ranges.proofs.orbit_test.Tie as tie
 
 returns : tie.Need-returns
 unfolding when

@@ -1,8 +1,8 @@
--- `records::all_ranges`: each limit is a turn of the test, from the last to the first. Assumes nothing.
+-- `ranges::all_ranges`: each limit is a turn of the test, from the last to the first. Assumes nothing.
 use borrow.Author.Needs.{needs}
-use Rattle.records.proofs.Laws.{ranges-limit}
-use Rattle.records.proofs.all_ranges.Statement.{statement}
-use Rattle.records.proofs.all_ranges.Tie as tie
+use Rattle.ranges.proofs.Laws.{ranges-limit}
+use Rattle.ranges.proofs.all_ranges.Statement.{statement}
+use Rattle.ranges.proofs.all_ranges.Tie as tie
 
 number-ranges-requires : tie.Need-number-ranges-requires
 number-ranges-requires c κs = search needs

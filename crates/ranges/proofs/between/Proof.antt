@@ -1,8 +1,8 @@
--- `records::between`: by its tests, on numbers that fit 64 bits. Assumes nothing.
+-- `ranges::between`: by its tests, on numbers that fit 64 bits. Assumes nothing.
 use mir.Facts.{toZ-ofZ}
 use mir.Syntax.{w64}
-use Rattle.records.proofs.between.Statement.{statement}
-use Rattle.records.proofs.between.Tie as tie
+use Rattle.ranges.proofs.between.Statement.{statement}
+use Rattle.ranges.proofs.between.Tie as tie
 
 returns : tie.Need-returns
 returns c =

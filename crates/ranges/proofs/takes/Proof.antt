@@ -1,10 +1,10 @@
--- `records::takes`: by the place's width, and by its range. Assumes nothing.
+-- `ranges::takes`: by the place's width, and by its range. Assumes nothing.
 use mir.Facts.{toZ-ofZ}
 use mir.Syntax.{w64}
 use borrow.Author.Needs.{needs}
 use borrow.Author.Tests.{eq-eqb, ne-eqb}
-use Rattle.records.proofs.takes.Statement.{statement}
-use Rattle.records.proofs.takes.Tie as tie
+use Rattle.ranges.proofs.takes.Statement.{statement}
+use Rattle.ranges.proofs.takes.Tie as tie
 
 returns : tie.Need-returns
 returns c = simp (eq-eqb _ _ (c .if1 .taken))

@@ -1,7 +1,7 @@
--- `records::limit`: by its two tests. Assumes nothing.
+-- `ranges::limit`: by its two tests. Assumes nothing.
 use borrow.Author.Tests.{le-leb, lt-leb}
-use Rattle.records.proofs.limit.Statement.{statement}
-use Rattle.records.proofs.limit.Tie as tie
+use Rattle.ranges.proofs.limit.Statement.{statement}
+use Rattle.ranges.proofs.limit.Tie as tie
 
 returns : tie.Need-returns
 returns c = simp (le-leb _ _ (c .before .if1 .taken), le-leb _ _ (c .if2 .taken))
