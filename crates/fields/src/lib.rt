@@ -99,7 +99,7 @@ fn hold(part: &mut [u8], held: Held, width: usize, x: u64) -> Held
     let word = held.word;
     let count = held.count;
     if count + width > 64 {
-        bits::put_field(part, at, count, word);
+        puts::put_field(part, at, count, word);
         return Held {
             at: at + count,
             word: x,
@@ -146,5 +146,5 @@ pub fn put_numbers(
         at += width;
         i += 1;
     }
-    bits::put_field(part, held.at, held.count, held.word);
+    puts::put_field(part, held.at, held.count, held.word);
 }

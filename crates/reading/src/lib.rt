@@ -26,7 +26,7 @@ fn raw_at(part: &[u8], from: usize, n: usize) -> [u8; RAW_BYTES]
     if n == 0 {
         return raw;
     }
-    bits::pack_bits(&mut raw, part, from, n);
+    puts::pack_bits(&mut raw, part, from, n);
     raw
 }
 

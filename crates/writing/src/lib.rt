@@ -36,7 +36,7 @@ fn put_raw(part: &mut [u8], to: usize, raw: [u8; RAW_BYTES], n: usize)
     if n == 0 {
         return;
     }
-    bits::copy_bits(part, to, &raw, 0, n);
+    puts::copy_bits(part, to, &raw, 0, n);
 }
 
 // Puts the string of a record, of so many bits, at the place `offset`.
@@ -51,11 +51,11 @@ fn put_string(part: &mut [u8], offset: usize, r: Record, long: usize)
     let count = long - degree;
     let n = types::raw_count(kind);
     let to = offset + count - n;
-    bits::put_field(part, offset, 50, (format::MARK << 38) + service(r));
+    puts::put_field(part, offset, 50, (format::MARK << 38) + service(r));
     fields::put_numbers(part, offset + 50, to, kind, numbers, r.minus);
     put_raw(part, to, raw, n);
     let c = types::check(part, offset, count, kind);
-    bits::put_field(part, offset + count, degree, c as u64);
+    puts::put_field(part, offset + count, degree, c as u64);
 }
 
 // The test 5 of a string of so many bits at a place.
