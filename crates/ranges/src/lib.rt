@@ -53,7 +53,7 @@ fn number_ranges(kind: u8, numbers: [i64; PLACES]) -> Answer
 }
 
 // What the fields past this one answer, if its number is from low to high; else that it is out of range.
-fn limit(field: usize, v: u16, low: u16, high: u16, past: Answer) -> Answer
+fn limit(field: usize, v: u64, low: u64, high: u64, past: Answer) -> Answer
     ensures { λ a. ⌜ a ≡ cond (leb low v && leb v high) past (Refused (OutOfRange field)) ⌝ }
 {
     if low <= v {
@@ -71,14 +71,14 @@ fn all_ranges(r: Record) -> Answer
     let numbers = r.numbers;
     let from10 = number_ranges(r.kind, numbers);
     let from9 = limit(9, r.time, 0, 43199, from10);
-    let from8 = limit(8, r.next as u16, 0, 1, from9);
-    let from7 = limit(7, r.correction as u16, 0, 3, from8);
-    let from6 = limit(6, r.attitude as u16, 0, 1, from7);
-    let from5 = limit(5, r.call as u16, 0, 15, from6);
-    let from4 = limit(4, r.validity as u16, 0, 1, from5);
-    let from3 = limit(3, r.signal as u16, 0, 1, from4);
-    let from2 = limit(2, r.satellite as u16, 1, 63, from3);
-    limit(1, r.kind as u16, 0, 63, from2)
+    let from8 = limit(8, r.next as u64, 0, 1, from9);
+    let from7 = limit(7, r.correction as u64, 0, 3, from8);
+    let from6 = limit(6, r.attitude as u64, 0, 1, from7);
+    let from5 = limit(5, r.call as u64, 0, 15, from6);
+    let from4 = limit(4, r.validity as u64, 0, 1, from5);
+    let from3 = limit(3, r.signal as u64, 0, 1, from4);
+    let from2 = limit(2, r.satellite as u64, 1, 63, from3);
+    limit(1, r.kind as u64, 0, 63, from2)
 }
 
 // Type 20 is read and written for orbit 00 only.

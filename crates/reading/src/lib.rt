@@ -50,7 +50,7 @@ fn decoded(part: &[u8], offset: usize, kind: u8, long: usize) -> Record
     let attitude = ((service >> 19) % 2) as u8;
     let correction = ((service >> 17) % 4) as u8;
     let next = ((service >> 16) % 2) as u8;
-    let time = (service % 65536) as u16;
+    let time = service % 65536;
     Record {
         kind,
         satellite,

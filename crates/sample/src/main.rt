@@ -1,7 +1,7 @@
 // Writes the three strings of document 01's example end to end, with 7 zero bits after them, and prints the recording.
 use format::Record;
 
-fn content(kind: u8, correction: u8, next: u8, time: u16) -> Record {
+fn content(kind: u8, correction: u8, next: u8, time: u64) -> Record {
     Record {
         kind,
         satellite: 5,

@@ -25,7 +25,7 @@ fn service(r: Record) -> u64
     let validity = (satellite * 2 + r.signal as u64) * 2 + r.validity as u64;
     let attitude = (validity * 16 + r.call as u64) * 2 + r.attitude as u64;
     let next = (attitude * 4 + r.correction as u64) * 2 + r.next as u64;
-    next * 65536 + r.time as u64
+    next * 65536 + r.time
 }
 
 // Puts the first `n` raw bits from the place `to` on; most types have none.

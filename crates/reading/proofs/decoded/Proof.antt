@@ -129,9 +129,6 @@ cast-correction c = search needs
 cast-next : tie.Need-cast-next
 cast-next c = search needs
 
-cast-time : tie.Need-cast-time
-cast-time c = search needs
-
 returns : tie.Need-returns
 returns c =
     let n = c .before .before in
@@ -163,5 +160,4 @@ decoded-spec =
     cast-attitude
     cast-correction
     cast-next
-    cast-time
     returns)

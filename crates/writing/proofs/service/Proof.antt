@@ -1,5 +1,7 @@
 -- `writing::service`: the fields are in their ranges, so the number holds each one's bits. Assumes nothing.
+use native.Mathlib.Omega.{arith}
 use borrow.Author.Needs.{needs}
+use Rattle.format.proofs.Writing.{ranged}
 use Rattle.writing.proofs.Strings.{service-number}
 use Rattle.writing.proofs.service.Statement.{statement}
 use Rattle.writing.proofs.service.Tie as tie
@@ -80,11 +82,8 @@ add-next-2 c = search needs
 mul-result : tie.Need-mul-result
 mul-result c = search needs
 
-cast-result : tie.Need-cast-result
-cast-result c = search needs
-
 add-result : tie.Need-add-result
-add-result c = search needs
+add-result c = omega (arith, ranged _ (at-start (c .before .before .before .before) .pre) .time)
 
 returns : tie.Need-returns
 returns c = service-number _ (at-start (c .before .before .before .before) .pre)
@@ -116,6 +115,5 @@ service-spec =
     cast-next-2
     add-next-2
     mul-result
-    cast-result
     add-result
     returns)
