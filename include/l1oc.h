@@ -55,7 +55,8 @@ struct l1oc_answer {
 
 /*
  * A string by its fields. Fields 1 to 9 are the service fields, which every type has. Types 10, 11, 12, 20 and 25 have information
- * fields, from 10 on; the other types have raw bits instead. What a type does not use is 0.
+ * fields, from 10 on; the other types have raw bits instead. What a type does not use is 0. Every byte of a record is one of a member,
+ * so that memcmp compares two of them.
  *
  * Information fields with their power of two, where they have one:
  *   type 10: 10 N4, 11 NT, 12 M, 13 frame size, 14 tb (90 s), 15 16 ages, 17 18 modes, 19 20 accuracy factors (signed) of ephemeris and
@@ -77,7 +78,7 @@ struct l1oc_record {
     uint8_t attitude;              /* field 6: attitude, 0 or 1 */
     uint8_t correction;            /* field 7: correction code KP: 0 none, 1 day longer, 2 undecided, 3 day shorter */
     uint8_t next;                  /* field 8: A, 1 where the correction is at the end of the next string */
-    uint16_t time;                 /* field 9: OMB, the time mark count in units of 2 s, 0 to 43199 */
+    uint64_t time;                 /* field 9: OMB, the time mark count in units of 2 s, 0 to 43199 */
     int64_t numbers[L1OC_NUMBERS]; /* numbers[i]: field 10 + i, in counts; reserve fields too */
     uint16_t minus;                /* minus-zero mark: bit i, the lowest is bit 0, where field 10 + i is minus zero; its number is 0 then */
     uint8_t raw[L1OC_RAW_BYTES];   /* raw bits of the other types, high bit first: 59 of type 1, 301 of type 2, else 184; then zeros */

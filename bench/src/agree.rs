@@ -142,7 +142,7 @@ fn spoil(numbers: &mut Numbers, mut r: Record) -> Record {
         5 => r.attitude = byte % 4,
         6 => r.correction = byte % 8,
         7 => r.next = byte % 4,
-        8 => r.time = numbers.next() as u16,
+        8 => r.time = numbers.next() >> numbers.within(0, 63),
         9 => r.numbers[i] = numbers.next() as i64 >> numbers.within(0, 63),
         10 => r.numbers[i] = i64::MIN,
         11 => r.minus ^= 1 << i,

@@ -51,7 +51,7 @@ pub fn hour() -> Hour {
             common_type(&mut numbers)
         };
         let mut record = random_record(&mut numbers, kind);
-        record.time = (i % 43_200) as u16;
+        record.time = i % 43_200;
         let answer = peer::write(&mut bytes, HOUR_BITS, place, &record);
         assert_eq!(answer.number, 0, "string {i} is refused");
         starts.push(place);
@@ -95,7 +95,7 @@ pub fn random_record(numbers: &mut Numbers, kind: u8) -> Record {
         attitude: numbers.within(0, 1) as u8,
         correction: numbers.within(0, 3) as u8,
         next: numbers.within(0, 1) as u8,
-        time: numbers.within(0, 43_199) as u16,
+        time: numbers.within(0, 43_199) as u64,
         ..Record::BLANK
     };
     for (i, field) in layout::fields_of(kind).iter().enumerate() {

@@ -23,6 +23,7 @@ pub const ALL: &[Group] = &[
     ("minus zeros", strings::minus_zeros),
     ("records with a field out of range", records::out_of_range),
     ("records with two fields out of range", records::two_out),
+    ("OMB above its range", records::time),
     ("every value of a service field", records::service),
     ("minus-zero marks", marks::minus),
     ("unused places and filling bits", marks::unused),

@@ -21,7 +21,7 @@ pub fn record(random: &mut Random, kind: u8) -> Record {
         attitude: random.below(2) as u8,
         correction: random.below(4) as u8,
         next: random.below(2) as u8,
-        time: random.between(0, 43199) as u16,
+        time: random.between(0, 43199) as u64,
         ..Record::BLANK
     };
     let fields = table::information(kind).unwrap_or_default();
@@ -49,7 +49,7 @@ pub fn record(random: &mut Random, kind: u8) -> Record {
 }
 
 /// Puts a number into the field with this number (1 to 9 service, 10 and on information).
-/// The service fields have 8 bits in a record, OMB has 16.
+/// The service fields have 8 bits in a record, OMB has 64: a number below 0 is one from 2^63 on.
 pub fn set(record: &mut Record, field: usize, number: i64) {
     match field {
         1 => record.kind = number as u8,
@@ -60,7 +60,7 @@ pub fn set(record: &mut Record, field: usize, number: i64) {
         6 => record.attitude = number as u8,
         7 => record.correction = number as u8,
         8 => record.next = number as u8,
-        9 => record.time = number as u16,
+        9 => record.time = number as u64,
         _ => record.numbers[field - 10] = number,
     }
 }

@@ -134,7 +134,7 @@ fn take(string: &str, kind: u8) -> Record {
         attitude: service[5] as u8,
         correction: service[6] as u8,
         next: service[7] as u8,
-        time: service[8] as u16,
+        time: service[8] as u64,
         ..Record::BLANK
     };
     if let Some(fields) = table::information(kind) {
@@ -162,8 +162,8 @@ fn take(string: &str, kind: u8) -> Record {
     record
 }
 
-/// The service fields of a record in the order of their numbers 1 to 9.
-fn service_values(record: &Record) -> [i64; 9] {
+/// The service fields of a record in the order of their numbers 1 to 9. OMB may be any of 64 bits.
+fn service_values(record: &Record) -> [i128; 9] {
     [
         record.kind.into(),
         record.satellite.into(),
@@ -182,9 +182,9 @@ fn ranges_pass(record: &Record) -> Result<(), Answer> {
     let mut fields = table::service();
     fields.extend(table::information(record.kind).unwrap_or_default());
     let mut values = service_values(record).to_vec();
-    values.extend(record.numbers);
+    values.extend(record.numbers.map(i128::from));
     for (place, field) in fields.iter().enumerate() {
-        if values[place] < field.low || values[place] > field.high {
+        if values[place] < field.low.into() || values[place] > field.high.into() {
             return Err(refuse(7, place as u64 + 1));
         }
     }

@@ -31,7 +31,7 @@ pub fn make(folder: &Path) -> io::Result<()> {
 }
 
 /// The service fields that matter here; all others are zero.
-fn service(kind: u8, satellite: u8, time: u16) -> Record {
+fn service(kind: u8, satellite: u8, time: u64) -> Record {
     Record {
         kind,
         satellite,
@@ -140,7 +140,7 @@ fn all_types(random: &mut Twister) -> String {
             attitude: below(2) as u8,
             correction: below(4) as u8,
             next: below(2) as u8,
-            time: below(43200) as u16,
+            time: below(43200) as u64,
             ..Record::BLANK
         };
         string(record, &information(random, kind))

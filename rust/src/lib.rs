@@ -31,7 +31,7 @@ pub struct Record {
     pub attitude: u8,
     pub correction: u8,
     pub next: u8,
-    pub time: u16,
+    pub time: u64,
     pub numbers: [i64; NUMBERS],
     pub minus: Mark,
     pub raw: [u8; RAW_BYTES],

@@ -59,9 +59,9 @@ fn decode(bytes: &[u8], place: usize, kind: u8, r: &mut Record) -> Result<(), An
     r.attitude = (service >> 19 & 1) as u8;
     r.correction = (service >> 17 & 3) as u8;
     r.next = (service >> 16 & 1) as u8;
-    r.time = service as u16;
+    r.time = service & 0xFFFF;
     refusals::range(2, r.satellite.into(), 1, 63)?;
-    refusals::range(9, r.time.into(), 0, 43199)?;
+    refusals::time(r)?;
 
     let mut at = offset + 50;
     let fields = layout::fields_of(kind);

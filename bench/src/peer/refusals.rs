@@ -42,7 +42,15 @@ fn service_ranges(r: &Record) -> Result<(), Answer> {
     for (i, (value, least, most)) in fields.into_iter().enumerate() {
         range(1 + i, value.into(), least, most)?;
     }
-    range(9, r.time.into(), 0, 43199)
+    time(r)
+}
+
+/// Test 7 of OMB.
+pub fn time(r: &Record) -> Result<(), Answer> {
+    if r.time > 43199 {
+        return Err(answer(OUT_OF_RANGE, 9));
+    }
+    Ok(())
 }
 
 /// Test 8.

@@ -62,7 +62,7 @@ fn service(r: &Record) -> u64 {
         | u64::from(r.attitude) << 19
         | u64::from(r.correction) << 17
         | u64::from(r.next) << 16
-        | u64::from(r.time)
+        | r.time
 }
 
 /// Puts the check bits, up to the place `end`.

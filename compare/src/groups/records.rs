@@ -3,7 +3,7 @@
 use crate::make::{self, SHAPES};
 use crate::plain::table::{self, Field};
 use crate::run::Run;
-use l1oc::{Record, NUMBERS};
+use l1oc::{Answer, Record, NUMBERS};
 
 /// Writes the record where it fits and where it does not, and scales its fields.
 pub fn write_and_scale(run: &mut Run, record: &Record) {
@@ -17,21 +17,20 @@ pub fn write_and_scale(run: &mut Run, record: &Record) {
     run.scaled(record, field);
 }
 
-/// The fields of a type with their numbers: service fields are counted in 8 bits, OMB in 16.
+/// The fields of a type with their numbers.
 fn fields(kind: u8) -> Vec<(usize, Field)> {
     let mut fields = table::service();
     fields.extend(table::information(kind).unwrap_or_default());
     (1..).zip(fields).collect()
 }
 
-/// Numbers outside a field's range that a record can hold there.
+/// Numbers outside a field's range that a record can hold there: the service fields have 8 bits,
+/// OMB and the information fields 64.
 fn outside(number: usize, field: &Field) -> Vec<i64> {
-    let most = match number {
-        1..=8 => i64::from(u8::MAX),
-        9 => i64::from(u16::MAX),
-        _ => i64::MAX,
+    let (least, most) = match number {
+        1..=8 => (0, i64::from(u8::MAX)),
+        _ => (i64::MIN, i64::MAX),
     };
-    let least = if number < 10 { 0 } else { i64::MIN };
     let mut out = vec![
         field.low - 1,
         field.low - 2,
@@ -92,7 +91,25 @@ pub fn two_out(run: &mut Run) {
     }
 }
 
-/// Every value that a record can hold in a service field.
+/// OMB above its range, by one and up to the most that a record can hold.
+pub fn time(run: &mut Run) {
+    for kind in SHAPES {
+        for time in [43200, 65535, 65536, 1 << 32, 1 << 63, u64::MAX] {
+            let record = Record {
+                time,
+                ..make::record(&mut run.random, kind)
+            };
+            let written = run.write(&[0; 64], 512, 3, &record).answer;
+            let scaled = run.scaled(&record, 21).answer;
+            let refused = |answer: Answer| (answer.number, answer.value) == (7, 9);
+            run.require(refused(written) && refused(scaled), || {
+                println!("OMB {time} is not refused by 7, 9")
+            });
+        }
+    }
+}
+
+/// Every value of 8 bits in a service field, and of 16 in OMB.
 pub fn service(run: &mut Run) {
     for kind in SHAPES {
         for number in 1..=8 {
