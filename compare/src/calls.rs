@@ -31,9 +31,12 @@ pub trait Call: Clone {
     /// Runs the second implementation.
     fn plain(&self, lent: &mut Self::Lent) -> (Answer, Self::Given);
 
-    /// Runs the proved one, behind its C interface. A recording is lent mutably, so that a change
-    /// of it is seen and not assumed away.
-    fn proved(&self, lent: &mut Self::Lent) -> (Answer, Self::Given);
+    /// Runs the proved one as C declares it. A recording is lent mutably, so that a change of it
+    /// is seen and not assumed away.
+    fn declared(&self, lent: &mut Self::Lent) -> (Answer, Self::Given);
+
+    /// Runs the proved one by the safe function of `rust/`.
+    fn safe(&self, lent: &mut Self::Lent) -> (Answer, Self::Given);
 
     /// Names the parts of the input that are made smaller.
     fn shrink(_: &mut Shrink<Self>) {}
@@ -45,7 +48,8 @@ pub trait Call: Clone {
         let mut lent = self.lend();
         let (answer, given) = match side {
             Side::Plain => self.plain(&mut lent),
-            Side::Proved => self.proved(&mut lent),
+            Side::Declared => self.declared(&mut lent),
+            Side::Safe => self.safe(&mut lent),
         };
         Outcome {
             answer,
@@ -54,18 +58,26 @@ pub trait Call: Clone {
         }
     }
 
-    /// Whether the two sides differ on this input.
-    fn differs(&self) -> bool {
-        self.run(Side::Plain) != self.run(Side::Proved)
+    /// What the second implementation gives, if the proved one gives the same both ways.
+    fn agreed(&self) -> Option<Outcome<Self>> {
+        let plain = self.run(Side::Plain);
+        let agree = plain == self.run(Side::Declared) && plain == self.run(Side::Safe);
+        agree.then_some(plain)
     }
 }
 
-/// Which implementation runs.
-#[derive(Clone, Copy)]
+/// Which implementation runs, and how it is called.
+#[derive(Clone, Copy, Debug)]
 pub enum Side {
+    /// The second one.
     Plain,
-    Proved,
+    /// The proved one, as C declares it.
+    Declared,
+    /// The proved one, by the safe functions.
+    Safe,
 }
+
+pub const SIDES: [Side; 3] = [Side::Plain, Side::Declared, Side::Safe];
 
 /// What a call answers and gives, and the lent memory afterwards with its guards.
 pub struct Outcome<C: Call> {

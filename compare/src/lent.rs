@@ -1,5 +1,6 @@
 //! Lent memory between guards, which must stay as they are.
 
+use crate::calls::Side;
 use std::any::type_name;
 use std::fmt::Debug;
 use std::ops::{Deref, DerefMut};
@@ -44,33 +45,33 @@ impl<T> DerefMut for Lent<T> {
 
 /// All that a call is lent: nothing, one piece of memory, or two.
 pub trait Memory: PartialEq {
-    /// Prints where the memory that the plain side left differs from the proved side's.
-    fn print_difference(&self, proved: &Self);
+    /// Prints where another side's memory differs from this, the plain side's.
+    fn print_difference(&self, side: Side, other: &Self);
 }
 
 impl Memory for () {
-    fn print_difference(&self, _: &()) {}
+    fn print_difference(&self, _: Side, _: &()) {}
 }
 
 impl<T: PartialEq + Debug> Memory for Lent<T> {
     /// The first entry that differs; places outside the lent ones belong to the guards.
-    fn print_difference(&self, proved: &Self) {
-        let (plain, proved) = (&self.0, &proved.0);
-        if let Some(place) = (0..plain.len()).find(|place| plain[*place] != proved[*place]) {
+    fn print_difference(&self, side: Side, other: &Self) {
+        let (plain, other) = (&self.0, &other.0);
+        if let Some(place) = (0..plain.len()).find(|place| plain[*place] != other[*place]) {
             println!(
-                "lent {} {} afterwards: plain {:x?}, proved {:x?}",
+                "lent {} {} afterwards: Plain {:x?}, {side:?} {:x?}",
                 type_name::<T>(),
                 place as i64 - GUARD as i64,
                 plain[place],
-                proved[place]
+                other[place]
             );
         }
     }
 }
 
 impl<A: Memory, B: Memory> Memory for (A, B) {
-    fn print_difference(&self, proved: &Self) {
-        self.0.print_difference(&proved.0);
-        self.1.print_difference(&proved.1);
+    fn print_difference(&self, side: Side, other: &Self) {
+        self.0.print_difference(side, &other.0);
+        self.1.print_difference(side, &other.1);
     }
 }

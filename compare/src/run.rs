@@ -1,6 +1,6 @@
-//! Runs cases on both implementations, counts them, and stops at the first that differs.
+//! Runs cases on all sides, counts them, and stops at the first that differs.
 
-use crate::calls::{Call, Outcome, Side};
+use crate::calls::{Call, Outcome, SIDES};
 use crate::lent::Memory;
 use crate::random::Random;
 use crate::shrink::shrink;
@@ -20,25 +20,24 @@ pub struct Run {
 pub type Seen = BTreeMap<&'static str, (&'static [u64], BTreeSet<u64>)>;
 
 impl Run {
-    /// Compares one case; the outcome is the same on both sides.
+    /// Compares one case; the outcome is the same on all sides.
     pub fn compare<C: Call>(&mut self, call: C) -> Outcome<C> {
         self.cases += 1;
-        let outcome = call.run(Side::Plain);
-        if outcome != call.run(Side::Proved) {
+        let Some(outcome) = call.agreed() else {
             report(&shrink(call));
             exit(1);
-        }
+        };
         let seen = self.seen.entry(C::NAME);
         let (_, numbers) = seen.or_insert((C::NUMBERS, BTreeSet::new()));
         numbers.insert(outcome.answer.number);
         outcome
     }
 
-    /// Runs one case on both sides and holds each outcome against what document 01 says.
+    /// Runs one case on all sides and holds each outcome against what document 01 says.
     pub fn expect<C: Call>(&mut self, name: &str, call: C, holds: impl Fn(&Outcome<C>) -> bool) {
-        for (side, title) in SIDES {
+        for side in SIDES {
             self.require(holds(&call.run(side)), || {
-                println!("{name} of document 01 fails in the {title} one");
+                println!("{name} of document 01 fails: {side:?}");
                 report(&call);
             });
         }
@@ -74,16 +73,16 @@ pub fn require_numbers(all: &Seen) {
     }
 }
 
-const SIDES: [(Side, &str); 2] = [(Side::Plain, "plain"), (Side::Proved, "proved")];
-
-/// Prints the case with both outcomes.
+/// Prints the case with all outcomes.
 fn report<C: Call>(call: &C) {
     println!("{}: {}", C::NAME, call.input());
-    let [plain, proved] = SIDES.map(|(side, title)| {
+    let outcomes = SIDES.map(|side| {
         let outcome = call.run(side);
         let Outcome { answer, given, .. } = &outcome;
-        println!("{title}: {}, {} {given:?}", answer.number, answer.value);
+        println!("{side:?}: {}, {} {given:?}", answer.number, answer.value);
         outcome
     });
-    plain.lent.print_difference(&proved.lent);
+    for (side, outcome) in SIDES.into_iter().zip(&outcomes) {
+        outcomes[0].lent.print_difference(side, &outcome.lent);
+    }
 }

@@ -32,7 +32,7 @@ impl<C: Call> Shrink<C> {
         self.tries -= 1;
         let mut call = self.call.clone();
         change(&mut call);
-        let differs = call.differs();
+        let differs = call.agreed().is_none();
         if differs {
             self.call = call;
         }

@@ -3,7 +3,7 @@
 use super::{answer, Call};
 use crate::plain::value;
 use l1oc::refusal::OUT_OF_RANGE;
-use l1oc::Answer;
+use l1oc::{c, Answer};
 
 #[derive(Clone)]
 pub struct Accuracy {
@@ -22,7 +22,12 @@ impl Call for Accuracy {
         (answer(value::accuracy(self.factor)), ())
     }
 
-    fn proved(&self, _: &mut ()) -> (Answer, ()) {
+    fn declared(&self, _: &mut ()) -> (Answer, ()) {
+        // SAFETY: everything goes by value.
+        (unsafe { c::l1oc_accuracy(self.factor) }, ())
+    }
+
+    fn safe(&self, _: &mut ()) -> (Answer, ()) {
         (l1oc::accuracy(self.factor), ())
     }
 

@@ -3,7 +3,7 @@
 use super::{answer, Call};
 use crate::plain::value;
 use l1oc::refusal::OUT_OF_RANGE;
-use l1oc::Answer;
+use l1oc::{c, Answer};
 
 #[derive(Clone)]
 pub struct DayCount {
@@ -23,7 +23,12 @@ impl Call for DayCount {
         (answer(value::day_count(self.n4, self.nt)), ())
     }
 
-    fn proved(&self, _: &mut ()) -> (Answer, ()) {
+    fn declared(&self, _: &mut ()) -> (Answer, ()) {
+        // SAFETY: everything goes by value.
+        (unsafe { c::l1oc_day_count(self.n4, self.nt) }, ())
+    }
+
+    fn safe(&self, _: &mut ()) -> (Answer, ()) {
         (l1oc::day_count(self.n4, self.nt), ())
     }
 

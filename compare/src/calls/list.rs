@@ -30,12 +30,16 @@ impl Call for List {
         (answer(starts.map(|starts| starts as u64)), ())
     }
 
-    fn proved(&self, (bytes, list): &mut Self::Lent) -> (Answer, ()) {
+    fn declared(&self, (bytes, list): &mut Self::Lent) -> (Answer, ()) {
         let (lent, length) = (bytes.as_mut_ptr().cast_const(), bytes.len());
         // SAFETY: both slices are lent whole, with their lengths.
         let answer =
             unsafe { c::l1oc_list(lent, length, self.count, list.as_mut_ptr(), list.len()) };
         (answer, ())
+    }
+
+    fn safe(&self, (bytes, list): &mut Self::Lent) -> (Answer, ()) {
+        (l1oc::list(bytes, self.count, list), ())
     }
 
     fn shrink(shrink: &mut Shrink<Self>) {

@@ -40,16 +40,14 @@ impl Call for Read {
         (answer(record.map(|_| 0)), record.unwrap_or(Record::BLANK))
     }
 
-    fn proved(&self, bytes: &mut Lent<u8>) -> (Answer, Record) {
+    fn declared(&self, bytes: &mut Lent<u8>) -> (Answer, Record) {
         let (lent, length) = (bytes.as_mut_ptr().cast_const(), bytes.len());
         // SAFETY: the slice is lent whole, with its length.
-        let reading = unsafe { c::l1oc_read(lent, length, self.count, self.place) };
-        let Reading {
-            number,
-            value,
-            content,
-        } = reading;
-        (Answer { number, value }, content)
+        parts(unsafe { c::l1oc_read(lent, length, self.count, self.place) })
+    }
+
+    fn safe(&self, bytes: &mut Lent<u8>) -> (Answer, Record) {
+        parts(l1oc::read(bytes, self.count, self.place))
     }
 
     fn shrink(shrink: &mut Shrink<Self>) {
@@ -60,6 +58,15 @@ impl Call for Read {
         let bytes = hex(&self.bytes);
         format!("count {}, place {}, bytes {bytes}", self.count, self.place)
     }
+}
+
+fn parts(reading: Reading) -> (Answer, Record) {
+    let Reading {
+        number,
+        value,
+        content,
+    } = reading;
+    (Answer { number, value }, content)
 }
 
 impl Run {

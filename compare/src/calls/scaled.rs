@@ -5,7 +5,7 @@ use crate::plain::value;
 use crate::run::Run;
 use crate::shrink::Shrink;
 use l1oc::refusal::*;
-use l1oc::{Answer, Record, Value};
+use l1oc::{c, Answer, Record, Value};
 use std::fmt;
 
 #[derive(Clone)]
@@ -38,13 +38,13 @@ impl Call for Scaled {
         (answer(scaled.map(|_| 0)), bits)
     }
 
-    fn proved(&self, _: &mut ()) -> (Answer, Bits) {
-        let Value {
-            number,
-            value,
-            scaled,
-        } = l1oc::scaled(self.record, self.field);
-        (Answer { number, value }, Bits(scaled.to_bits()))
+    fn declared(&self, _: &mut ()) -> (Answer, Bits) {
+        // SAFETY: everything goes by value.
+        parts(unsafe { c::l1oc_scaled(self.record, self.field) })
+    }
+
+    fn safe(&self, _: &mut ()) -> (Answer, Bits) {
+        parts(l1oc::scaled(self.record, self.field))
     }
 
     fn shrink(shrink: &mut Shrink<Self>) {
@@ -54,6 +54,15 @@ impl Call for Scaled {
     fn input(&self) -> String {
         format!("field {}\n  {:?}", self.field, self.record)
     }
+}
+
+fn parts(value: Value) -> (Answer, Bits) {
+    let Value {
+        number,
+        value,
+        scaled,
+    } = value;
+    (Answer { number, value }, Bits(scaled.to_bits()))
 }
 
 impl Run {

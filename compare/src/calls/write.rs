@@ -6,7 +6,7 @@ use crate::plain;
 use crate::run::Run;
 use crate::shrink::Shrink;
 use l1oc::refusal::*;
-use l1oc::{Answer, Record};
+use l1oc::{c, Answer, Record};
 
 #[derive(Clone)]
 pub struct Write {
@@ -41,9 +41,15 @@ impl Call for Write {
         (answer(after.map(|after| after as u64)), ())
     }
 
-    fn proved(&self, bytes: &mut Lent<u8>) -> (Answer, ()) {
-        let answer = l1oc::write(bytes, self.count, self.place, self.record);
+    fn declared(&self, bytes: &mut Lent<u8>) -> (Answer, ()) {
+        let (lent, length) = (bytes.as_mut_ptr(), bytes.len());
+        // SAFETY: the slice is lent whole, with its length.
+        let answer = unsafe { c::l1oc_write(lent, length, self.count, self.place, self.record) };
         (answer, ())
+    }
+
+    fn safe(&self, bytes: &mut Lent<u8>) -> (Answer, ()) {
+        (l1oc::write(bytes, self.count, self.place, self.record), ())
     }
 
     fn shrink(shrink: &mut Shrink<Self>) {

@@ -1,10 +1,10 @@
-//! The worked examples of document 01, each on both implementations.
+//! The worked examples of document 01, each on all sides.
 
 use crate::calls::day_count::DayCount;
 use crate::calls::list::List;
 use crate::calls::read::Read;
 use crate::calls::write::Write;
-use crate::calls::{Call, Outcome, Side};
+use crate::calls::{Call, Outcome, SIDES};
 use crate::make;
 use crate::plain::{self, check, LIMIT};
 use crate::run::Run;
@@ -89,7 +89,7 @@ fn check_bits(run: &mut Run) {
             let text = plain::bits(&bytes, width, width + digits);
             u32::from_str_radix(&text, 2).expect("binary digits")
         };
-        for side in [Side::Plain, Side::Proved] {
+        for side in SIDES {
             run.require(close(side, without) ^ close(side, with) == want, || {
                 println!("check bits {want:X} of document 01 fail in writing, type {kind}");
             });
@@ -179,7 +179,7 @@ fn listing(run: &mut Run) {
         time,
         ..Record::BLANK
     });
-    for side in [Side::Plain, Side::Proved] {
+    for side in SIDES {
         let mut bytes = vec![0; 79];
         for ((place, ..), record) in lines.into_iter().zip(records) {
             let count = 632;
