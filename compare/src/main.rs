@@ -1,7 +1,8 @@
 //! Compares the proved implementation with a second, plain one.
 //!
 //! `compare` runs every group once; `compare --long N` makes the random groups N times as long,
-//! with further random numbers. `compare --recordings FOLDER` makes the recordings of `tests/list`.
+//! with further random numbers. `compare --recordings FOLDER` makes the recordings of `tests/list`,
+//! `compare --full FOLDER` those as long as the limit, which are not stored.
 
 #![deny(warnings)]
 
@@ -18,6 +19,8 @@ mod shrink;
 use random::Random;
 use run::{require_numbers, Run, Seen};
 use std::env;
+use std::io;
+use std::path::Path;
 use std::process::exit;
 use std::sync::atomic::{AtomicUsize, Ordering};
 use std::thread;
@@ -30,12 +33,8 @@ fn main() {
             Ok(long @ 1..) => compare(long),
             _ => wrong_use(),
         },
-        ["--recordings", folder] => {
-            if let Err(error) = recordings::make(folder.as_ref()) {
-                eprintln!("{folder}: {error}");
-                exit(1);
-            }
-        }
+        ["--recordings", folder] => save(folder, recordings::make),
+        ["--full", folder] => save(folder, recordings::make_full),
         _ => wrong_use(),
     }
 }
@@ -43,7 +42,16 @@ fn main() {
 fn wrong_use() -> ! {
     eprintln!("usage: compare [--long N], N at least 1");
     eprintln!("       compare --recordings FOLDER");
+    eprintln!("       compare --full FOLDER");
     exit(2)
+}
+
+/// Makes recordings in a folder.
+fn save(folder: &str, make: fn(&Path) -> io::Result<()>) {
+    if let Err(error) = make(folder.as_ref()) {
+        eprintln!("{folder}: {error}");
+        exit(1);
+    }
 }
 
 /// Runs every group, as many at once as there are cores.

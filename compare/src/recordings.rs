@@ -1,4 +1,4 @@
-//! The recordings of `tests/list`, and what the program `list` should print for each.
+//! The recordings on which `tests/list` runs the program `list`, and what it should print for each.
 
 mod twister;
 
@@ -11,7 +11,7 @@ use std::io;
 use std::path::Path;
 use twister::Twister;
 
-/// Makes each recording as NAME.bin, and what `list` prints of it as NAME.csv.
+/// Makes the recordings that are stored in `tests/list`.
 pub fn make(folder: &Path) -> io::Result<()> {
     let random = &mut Twister::new(20_261_115);
     for (name, text) in [
@@ -21,13 +21,39 @@ pub fn make(folder: &Path) -> io::Result<()> {
         ("damaged", damaged(random)),
         ("all_types", all_types(random)),
     ] {
-        let bytes = make::pack(&text);
-        fs::write(folder.join(name).with_extension("csv"), report(&bytes))?;
-        fs::write(folder.join(name).with_extension("bin"), bytes)?;
+        save(folder, name, &text)?;
     }
     // Of this one only the text is kept.
     let longer = vec![0; LIMIT / 8 + 1];
     fs::write(folder.join("refused.csv"), report(&longer))
+}
+
+/// Makes recordings of as many bits as the limit, and one of a byte less.
+pub fn make_full(folder: &Path) -> io::Result<()> {
+    let random = &mut Twister::new(20_261_116);
+    let rest = random_bits(random, LIMIT % 125);
+    let strings = end_to_end(random, |random| random.between(0, 63) as u8);
+    let mut damaged = strings.clone() + &rest;
+    for place in (1000..LIMIT - 40).step_by(3001) {
+        damaged.replace_range(place..place + 40, &random_bits(random, 40));
+    }
+    for (name, text) in [
+        ("strings", strings.clone() + &rest),
+        ("strings_to_the_end", rest.clone() + &strings),
+        ("most_strings", end_to_end(random, |_| 1) + &rest),
+        ("damaged_strings", damaged),
+        ("noise", random_bits(random, LIMIT)),
+    ] {
+        save(folder, name, &text)?;
+    }
+    save(folder, "a_byte_less", &(rest + &strings)[..LIMIT - 8])
+}
+
+/// Saves a recording as NAME.bin, and what `list` prints of it as NAME.csv.
+fn save(folder: &Path, name: &str, text: &str) -> io::Result<()> {
+    let bytes = make::pack(text);
+    fs::write(folder.join(name).with_extension("csv"), report(&bytes))?;
+    fs::write(folder.join(name).with_extension("bin"), bytes)
 }
 
 /// The service fields that matter here; all others are zero.
@@ -127,23 +153,38 @@ fn damaged(random: &mut Twister) -> String {
     .concat()
 }
 
-/// A string of each type with any fields, end to end.
-fn all_types(random: &mut Twister) -> String {
-    let one = |kind| {
-        let mut below = |end: i64| random.between(0, end - 1);
-        let record = Record {
-            kind,
-            satellite: 1 + below(63) as u8,
-            signal: below(2) as u8,
-            validity: below(2) as u8,
-            call: below(16) as u8,
-            attitude: below(2) as u8,
-            correction: below(4) as u8,
-            next: below(2) as u8,
-            time: below(43200) as u64,
-            ..Record::BLANK
-        };
-        string(record, &information(random, kind))
+/// A string of the type with any fields.
+fn any(random: &mut Twister, kind: u8) -> String {
+    let mut below = |end: i64| random.between(0, end - 1);
+    let record = Record {
+        kind,
+        satellite: 1 + below(63) as u8,
+        signal: below(2) as u8,
+        validity: below(2) as u8,
+        call: below(16) as u8,
+        attitude: below(2) as u8,
+        correction: below(4) as u8,
+        next: below(2) as u8,
+        time: below(43200) as u64,
+        ..Record::BLANK
     };
-    (0..64).map(one).collect()
+    string(record, &information(random, kind))
+}
+
+/// A string of each type, end to end.
+fn all_types(random: &mut Twister) -> String {
+    (0..64).map(|kind| any(random, kind)).collect()
+}
+
+/// Strings of the types that come, and the shortest where no other fits, end to end to within 125 bits of the limit.
+fn end_to_end(random: &mut Twister, mut kind: impl FnMut(&mut Twister) -> u8) -> String {
+    let mut text = String::new();
+    while text.len() + 125 <= LIMIT {
+        let mut next = kind(random);
+        if text.len() + plain::length(next) > LIMIT {
+            next = 1;
+        }
+        text += &any(random, next);
+    }
+    text
 }
