@@ -3,8 +3,9 @@ use mathlib.Core.Path.{_≡_}
 use mathlib.Core.Bool.{Bool}
 use mathlib.Core.List.{List}
 use mathlib.Core.Logic.{_↔_}
-use Prim.Native.Nat.{ℕ, _<_}
+use Prim.Native.Nat.{ℕ, _*_, _≤_, _<_}
 use lib.ListN.{length, getD}
+use Rattle.bits.specs.Bits.{recorded, coveredBytes}
 use Rattle.cyclic.specs.Burst.{Burst}
 use Rattle.format.specs.declared.Answer.the-variants.{Passed}
 use Rattle.format.specs.declared.Outcome.{Outcome}
@@ -16,8 +17,8 @@ use Rattle.format.specs.Reading.{reading}
 use Rattle.format.specs.Standing.{stringTests, standing}
 use Rattle.format.specs.Strings.{stringBits, typeAt, lengthOf, checkBits, Stands}
 use Rattle.format.specs.Writing.{writing, bytesAfter, ReadsBack, WritesBack}
-use Rattle.bits.specs.Bits.{recorded}
 use Rattle.format.proofs.Agree
+use Rattle.format.proofs.Covered
 use Rattle.format.proofs.Damage
 use Rattle.format.proofs.Promise
 use Rattle.format.proofs.Resync
@@ -71,3 +72,19 @@ written-back = RoundTrips.written-back
 pub read-back : (bytes : List ℕ) (count place : ℕ) → ((i : ℕ) → getD bytes i 0 < 256) → reading bytes count place .answer ≡ Passed
     → WritesBack bytes count place (reading bytes count place .content)
 read-back = RoundTrips.read-back
+
+-- ---- only the bytes that a string covers
+
+-- Two recordings of one length, with the same bit count, that agree on the bytes that the string at a place covers: what stands there is
+-- the same, and they read alike there.
+pub standing-covered : (bytes others : List ℕ) (count place : ℕ) → length others ≡ length bytes
+    → coveredBytes place (lengthOf (typeAt (recorded bytes count) place)) others
+    ≡ coveredBytes place (lengthOf (typeAt (recorded bytes count) place)) bytes
+    → count ≤ 8 * length bytes → standing (recorded others count) place ≡ standing (recorded bytes count) place
+standing-covered = Covered.standing-covered
+
+pub reading-covered : (bytes others : List ℕ) (count place : ℕ) → length others ≡ length bytes
+    → coveredBytes place (lengthOf (typeAt (recorded bytes count) place)) others
+    ≡ coveredBytes place (lengthOf (typeAt (recorded bytes count) place)) bytes
+    → reading others count place ≡ reading bytes count place
+reading-covered = Covered.reading-covered

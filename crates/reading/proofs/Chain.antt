@@ -17,42 +17,47 @@ use Rattle.format.specs.Standing.{checkPasses, stringTests}
 use Rattle.format.specs.Tests.{when, _then_, placeTests}
 use Rattle.format.specs.Writing.{ReadPromise}
 use Rattle.format.proofs.Order.{refused-then, passed-then, when-yes, when-no}
-use Rattle.format.proofs.RoundTrips.{read-back}
+use Rattle.format.proofs.Theorems.{read-back, reading-covered}
 use Rattle.standing.specs.declared.Frame.{Frame}
 use Rattle.standing.specs.declared.Frame.the-variants.{Framed}
 use Rattle.standing.specs.Frames.{frameAt, frameTests}
 use Rattle.standing.proofs.Here.{frame-tests}
-use Rattle.reading.specs.Checked.{refused, checked}
+use Rattle.reading.specs.Checked.{refused, checked, stringRead}
 
-module _ (s : List ℕ) (n p : ℕ) where
-  abbrev u : List Bool
-  u = recorded s n
-
+-- ---- 5, 4, 5, 6, 7, 8, of the frame at a place
+module _ (u : List Bool) (p : ℕ) {f : Frame} (e : f ≡ frameAt u p) where
   abbrev found : Record
-  found = recordAt (recorded s n) p
+  found = recordAt u p
 
-  reading-is : (a : Answer) → (placeTests (length s) n p then stringTests u p then fieldTests found) ≡ a → beside a found ≡ reading s n p
+  by-frame : (g : Frame) → f ≡ g → beside (frameTests g p (checkPasses u p) then fieldTests found) found ≡ stringRead u p
+  unfolding stringRead
+  by-frame g k =
+      ap (λ (a : Answer). beside (a then fieldTests found) found)
+      (sym (frame-tests u p ∙ ap (λ (x : Frame). frameTests x p (checkPasses u p)) (sym e ∙ k)))
+
+  pub frame-refuses : (g : Frame) (x : Refusal) → frameTests g p (checkPasses u p) ≡ Refused x → f ≡ g → refused x ≡ stringRead u p
+  frame-refuses g x h k =
+      sym (ap (λ (z : Answer). beside z found) (ap (λ (z : Answer). z then fieldTests found) h ∙ refused-then x _)) ∙ by-frame g k
+
+  pub frame-checked : (kind long : ℕ) → f ≡ Framed kind long → checked u p p ≡ stringRead u p
+  unfolding checked
+  frame-checked kind long k = by-frame (Framed kind long) k
+
+-- ---- 1, 2, 3, then the string
+module _ (s : List ℕ) (n p : ℕ) {a : Answer} (e : a ≡ placeTests (length s) n p) where
+  pub place-refuses : (x : Refusal) → a ≡ Refused x → refused x ≡ reading s n p
   unfolding reading
-  reading-is a e = ap (λ (x : Answer). beside x found) (sym e)
+  place-refuses x f =
+      let r = recordAt (recorded s n) p in
+      ap (λ (z : Answer). beside z r) (sym (refused-then x _))
+      ∙ ap (λ (z : Answer). beside (z then stringTests (recorded s n) p then fieldTests r) r) (sym f ∙ e)
 
-  pub place-refuses : {a : Answer} (x : Refusal) → a ≡ placeTests (length s) n p → a ≡ Refused x → refused x ≡ reading s n p
-  place-refuses x e f =
-      reading-is (Refused x) (ap (λ (z : Answer). z then stringTests u p then fieldTests found) (sym e ∙ f) ∙ refused-then x _)
-
-  module _ (placed : placeTests (length s) n p ≡ Passed) {f : Frame} (e : f ≡ frameAt (recorded s n) p) where
-    by-frame : (g : Frame) → f ≡ g → beside (frameTests g p (checkPasses u p) then fieldTests found) found ≡ reading s n p
-    by-frame g k =
-        reading-is (frameTests g p (checkPasses u p) then fieldTests found)
-        (ap (λ (z : Answer). z then stringTests u p then fieldTests found) placed ∙ passed-then _
-        ∙ ap (λ (z : Answer). z then fieldTests found) (frame-tests u p ∙ ap (λ (x : Frame). frameTests x p (checkPasses u p)) (sym e ∙ k)))
-
-    pub frame-refuses : (g : Frame) (x : Refusal) → frameTests g p (checkPasses u p) ≡ Refused x → f ≡ g → refused x ≡ reading s n p
-    frame-refuses g x h k =
-        sym (ap (λ (z : Answer). beside z found) (ap (λ (z : Answer). z then fieldTests found) h ∙ refused-then x _)) ∙ by-frame g k
-
-    pub frame-checked : (kind long : ℕ) → f ≡ Framed kind long → checked u p p ≡ reading s n p
-    unfolding checked
-    frame-checked kind long k = by-frame (Framed kind long) k
+  pub place-passes-on : a ≡ Passed → stringRead (recorded s n) p ≡ reading s n p
+  unfolding reading stringRead
+  place-passes-on f =
+      let r = recordAt (recorded s n) p in
+      ap (λ (z : Answer). beside z r) (sym (passed-then _))
+      ∙ ap (λ (z : Answer). beside (z then stringTests (recorded s n) p then fieldTests r) r) (sym f ∙ e)
 
 -- ---- 6, 7, 8, of what the check of the bits tells
 module _ (u : List Bool) (o place : ℕ) {t : Bool} (e : t ≡ checkPasses u o) where
@@ -71,8 +76,11 @@ module _ (u : List Bool) (o place : ℕ) {t : Bool} (e : t ≡ checkPasses u o) 
       ap (λ (x : Answer). beside x r) (sym eb ∙ ea)
       ∙ rw er (ap (λ (x : Answer). beside x (recordAt u o)) (sym (passed-then _)) ∙ tested (sym (when-no (CheckFails place) (ap not f))))
 
--- ---- what was read writes back
+-- ---- the promise, of what is given
 pub promised : (bytes : List ℕ) (count place : ℕ) → ((i : ℕ) → getD bytes i 0 < 256) → {r : Reading} → r ≡ reading bytes count place
     → ReadPromise bytes count place r
-promised bytes count place below e =
-    record { answered = e; back = λ d. rw e (read-back bytes count place below (ap (λ (x : Reading). x .answer) (sym e) ∙ d)) }
+promised bytes count place below e = record {
+  answered = e;
+  back = λ d. rw e (read-back bytes count place below (ap (λ (x : Reading). x .answer) (sym e) ∙ d));
+  covered = λ others l same. e ∙ sym (reading-covered bytes others count place l same);
+}

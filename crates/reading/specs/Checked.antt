@@ -8,7 +8,7 @@ use Rattle.format.specs.declared.Refusal.{Refusal}
 use Rattle.format.specs.declared.Refusal.the-variants.{CheckFails}
 use Rattle.format.specs.Reading.{recordAt, beside}
 use Rattle.format.specs.Records.{blank, fieldTests}
-use Rattle.format.specs.Standing.{checkPasses}
+use Rattle.format.specs.Standing.{checkPasses, stringTests}
 use Rattle.format.specs.Tests.{when, _then_}
 
 -- A refusal, beside a blank record.
@@ -18,3 +18,7 @@ refused x = record { answer = Refused x; content = blank }
 -- The tests 6, 7, 8 of the string at the place `at` of these bits, and its record. A refusal by 6 names the place.
 unfoldable pub checked : List Bool → (at place : ℕ) → Reading
 checked bits at place = beside (when (not (checkPasses bits at)) (CheckFails place) then fieldTests (recordAt bits at)) (recordAt bits at)
+
+-- The tests 5, 4, 5, 6, 7, 8 of the string at a place of these bits, and its record.
+unfoldable pub stringRead : List Bool → ℕ → Reading
+stringRead bits place = beside (stringTests bits place then fieldTests (recordAt bits place)) (recordAt bits place)

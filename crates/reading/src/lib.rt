@@ -9,13 +9,14 @@ use standing::Frame;
 ghost use mathlib.Core.Path.{_≡_};
 ghost use Prim.Native.Nat.{_+_, _*_, _^_, _<_, _≤_};
 ghost use lib.ListN.{length, replicate};
-ghost use Rattle.bits.specs.Bits.{unpack, cut, put, pack};
+ghost use Rattle.bits.specs.Bits.{unpack, recorded, cut, put, Covers, pack};
 ghost use Rattle.format.specs.Reading.{recordAt};
 ghost use Rattle.format.specs.Records.{rawBytes, blank};
 ghost use Rattle.format.specs.Strings.{typeAt, lengthOf};
+ghost use Rattle.format.specs.Tests.{Passes};
 ghost use Rattle.format.specs.Types.{mostRaw};
 ghost use Rattle.format.specs.Writing.{ReadPromise};
-ghost use Rattle.reading.specs.Checked.{refused, checked};
+ghost use Rattle.reading.specs.Checked.{refused, checked, stringRead};
 
 // The record's raw bytes from the `n` bits from the place `from` on; most types have none.
 fn raw_at(part: &[u8], from: usize, n: usize) -> [u8; RAW_BYTES]
@@ -30,10 +31,9 @@ fn raw_at(part: &[u8], from: usize, n: usize) -> [u8; RAW_BYTES]
     raw
 }
 
-// The record of the string of a type and a length at the place `offset`, whose bits the part holds.
+// The record of the string of a type and a length at the place `offset` of the bytes that it covers.
 fn decoded(part: &[u8], offset: usize, kind: u8, long: usize) -> Record
-    requires { ⌜ (offset < 8) × (kind ≡ typeAt (unpack (now part)) offset) × (long ≡ lengthOf kind)
-        × (offset + long ≤ 8 * length (now part)) ⌝ }
+    requires { ⌜ Covers (now part) offset long × (kind ≡ typeAt (unpack (now part)) offset) × (long ≡ lengthOf kind) ⌝ }
     ensures { λ r. ⌜ r ≡ recordAt (unpack (now (part .entry))) offset ⌝ }
 {
     let service = bits::field(part, offset + 18, 32);
@@ -100,8 +100,7 @@ fn refused(refusal: Refusal) -> Reading
 // The tests 6, 7, 8 of the string of a type and a length at the place `offset` of the bytes that it covers, and its record. A refusal by 6
 // names the place.
 fn checked(part: &[u8], offset: usize, kind: u8, long: usize, place: usize) -> Reading
-    requires { ⌜ (offset < 8) × (kind ≡ typeAt (unpack (now part)) offset) × (long ≡ lengthOf kind)
-        × (offset + long ≤ 8 * length (now part)) ⌝ }
+    requires { ⌜ Covers (now part) offset long × (kind ≡ typeAt (unpack (now part)) offset) × (long ≡ lengthOf kind) ⌝ }
     ensures { λ r. ⌜ r ≡ checked (unpack (now (part .entry))) offset place ⌝ }
 {
     if !types::check_passes(part, offset, long, kind) {
@@ -118,14 +117,11 @@ fn checked(part: &[u8], offset: usize, kind: u8, long: usize, place: usize) -> R
     }
 }
 
-// Reads the string at a place: the answer, beside the record or a blank one.
-pub fn read(rec: &[u8], count: usize, place: usize) -> Reading
-    ensures { λ r. ⌜ ReadPromise (now (rec .entry)) count place r ⌝ }
+// Reads the string at a place of a recording whose bit count passes: 5 (18 bits), 4, 5, 6, 7, 8.
+fn read_string(rec: &[u8], count: usize, place: usize) -> Reading
+    requires { ⌜ Passes (now rec) count × (place ≤ count) ⌝ }
+    ensures { λ r. ⌜ r ≡ stringRead (recorded (now (rec .entry)) count) place ⌝ }
 {
-    let early = answers::place_tests(rec.len(), count, place);
-    if let Answer::Refused(refusal) = early {
-        return refused(refusal);
-    }
     let frame = standing::frame_at(rec, count, place);
     match frame {
         Frame::Short => refused(Refusal::RunsOut(place)),
@@ -136,5 +132,16 @@ pub fn read(rec: &[u8], count: usize, place: usize) -> Reading
             let end = (place + long + 7) / 8;
             checked(&rec[first..end], place % 8, kind, long, place)
         }
+    }
+}
+
+// Reads the string at a place: the answer, beside the record or a blank one.
+pub fn read(rec: &[u8], count: usize, place: usize) -> Reading
+    ensures { λ r. ⌜ ReadPromise (now (rec .entry)) count place r ⌝ }
+{
+    let early = answers::place_tests(rec.len(), count, place);
+    match early {
+        Answer::Refused(refusal) => refused(refusal),
+        Answer::Passed => read_string(rec, count, place),
     }
 }

@@ -25,13 +25,16 @@ refusedLine = 114 ∷ 101 ∷ 102 ∷ 117 ∷ 115 ∷ 101 ∷ 100 ∷ 44 ∷ 49 
 abbrev pub allBits : List ℕ → List Bool
 allBits bytes = recorded bytes (8 * length bytes)
 
--- The line of a start: the place; type, j, KP, A and OMB straight from the bits; and reading's number, 0 if read.
+-- Type, j, KP, A and OMB of the string at a place, straight from the bits.
+unfoldable pub serviceNumbers : List Bool → ℕ → List ℕ
+serviceNumbers bits place =
+    typeAt bits place ∷ number (stringBits bits place 19 24) ∷ number (stringBits bits place 32 33) ∷ number (stringBits bits place 34 34)
+    ∷ number (stringBits bits place 35 50) ∷ []
+
+-- The line of a start: the place; type, j, KP, A and OMB; and reading's number, 0 if read.
 unfoldable pub line : List ℕ → ℕ → List ℕ
 line bytes place =
-    row (
-    place ∷ typeAt (allBits bytes) place ∷ number (stringBits (allBits bytes) place 19 24) ∷ number (stringBits (allBits bytes) place 32 33)
-    ∷ number (stringBits (allBits bytes) place 34 34) ∷ number (stringBits (allBits bytes) place 35 50)
-    ∷ answerCode (reading bytes (8 * length bytes) place .answer) .0 ∷ [])
+    row (place ∷ (serviceNumbers (allBits bytes) place ++ (answerCode (reading bytes (8 * length bytes) place .answer) .0 ∷ [])))
 
 -- A line for each start.
 unfoldable pub lines : List ℕ → List ℕ → List ℕ

@@ -2,14 +2,15 @@
 use format::Limits;
 use format::Outcome;
 ghost use mathlib.Core.Path.{_≡_};
-ghost use Prim.Native.Nat.{_+_, _*_, _≤_, _<_};
+ghost use mathlib.Core.List.{List};
+ghost use Prim.Native.Nat.{ℕ, _+_, _*_, _≤_, _<_};
 ghost use lib.ListN.{length, take};
-ghost use Rattle.bits.specs.Bits.{number};
+ghost use Rattle.bits.specs.Bits.{number, unpack, Covers};
 ghost use Rattle.format.specs.Answers.{answerCode};
 ghost use Rattle.format.specs.Reading.{reading};
 ghost use Rattle.format.specs.Strings.{stringBits};
 ghost use Rattle.text.specs.Text.{row, lineMost, Wrote};
-ghost use Rattle.report.specs.Report.{allBits, line, lines, listed, report};
+ghost use Rattle.report.specs.Report.{serviceNumbers, line, lines, listed, report};
 ghost use Rattle.report.specs.Lines.{Within, Inside};
 ghost use Rattle.report.specs.Sizes.{bytesMost, reportMost};
 
@@ -32,12 +33,26 @@ fn result_at(rec: &[u8], place: usize) -> u32
     answers::answer_number(answer)
 }
 
-// The number that the bits `first` to `last` of the string at a place make. Bits in a string count from 1.
-fn field(rec: &[u8], place: usize, first: usize, last: usize) -> u32
-    requires { ⌜ Within (now rec) × (place + last ≤ 8 * length (now rec)) × (0 < first) × (first ≤ last) × (last < first + 32) ⌝ }
-    ensures { λ r. ⌜ r ≡ number (stringBits (allBits (now (rec .entry))) place first last) ⌝ }
+// The number that the bits `first` to `last` of the string at the place `offset` make, from the bytes that its first 50 bits cover. Bits in
+// a string count from 1.
+fn field(part: &[u8], offset: usize, first: usize, last: usize) -> u32
+    requires { ⌜ Covers (now part) offset 50 × (0 < first) × (first ≤ last) × (last ≤ 50) × (last < first + 32) ⌝ }
+    ensures { λ r. ⌜ r ≡ number (stringBits (unpack (now (part .entry))) offset first last) ⌝ }
 {
-    bits::field(rec, place + first - 1, last + 1 - first) as u32
+    bits::field(part, offset + first - 1, last + 1 - first) as u32
+}
+
+// Type, j, KP, A and OMB of the string at the place `offset`, from the bytes that its first 50 bits cover.
+fn service_numbers(part: &[u8], offset: usize) -> [u32; 5]
+    requires { ⌜ Covers (now part) offset 50 ⌝ }
+    ensures { λ r. ⌜ r ≡ serviceNumbers (unpack (now (part .entry))) offset ⌝ }
+{
+    let kind = field(part, offset, 13, 18);
+    let satellite = field(part, offset, 19, 24);
+    let correction = field(part, offset, 32, 33);
+    let next = field(part, offset, 34, 34);
+    let time = field(part, offset, 35, 50);
+    [kind, satellite, correction, next, time]
 }
 
 // The seven numbers of the line of the string at a place: the place, type, j, KP, A and OMB, and reading's number.
@@ -45,19 +60,17 @@ fn line_numbers(rec: &[u8], place: usize) -> [u32; text::ROW]
     requires { ⌜ Within (now rec) × (place + 50 ≤ 8 * length (now rec)) ⌝ }
     ensures { λ r. ⌜ row r ≡ line (now (rec .entry)) place ⌝ }
 {
-    let kind = field(rec, place, 13, 18);
-    let satellite = field(rec, place, 19, 24);
-    let correction = field(rec, place, 32, 33);
-    let next = field(rec, place, 34, 34);
-    let time = field(rec, place, 35, 50);
+    let first = place / 8;
+    let end = (place + 50 + 7) / 8;
+    let service = service_numbers(&rec[first..end], place % 8);
     let result = result_at(rec, place);
     [
         place as u32,
-        kind,
-        satellite,
-        correction,
-        next,
-        time,
+        service[0],
+        service[1],
+        service[2],
+        service[3],
+        service[4],
         result,
     ]
 }
@@ -100,12 +113,15 @@ fn put_listing(rec: &[u8], out: &mut [u8]) -> usize
     put_lines(rec, &found, n, out, at)
 }
 
-// Puts all that `list` prints for these bytes at the front of the buffer, and answers how many bytes that is.
+// Puts all that `list` prints for these bytes at the front of the buffer, and answers how many bytes that is. It is also what `list` prints
+// for every input that begins with these bytes, where they are as many as it reads.
 pub fn report(rec: &[u8], out: &mut [u8]) -> usize
-    requires { ⌜ (length (now rec) ≤ bytesMost) × (reportMost ≤ length (now out)) ⌝ }
+    requires { ⌜ reportMost ≤ length (now out) ⌝ }
     ensures { λ r. ⌜ Wrote (report (now (rec .entry))) 0 (now (out .entry)) (now (out .exit)) r ⌝ }
+    ensures { λ r. ⌜ ((input : List ℕ) → now (rec .entry) ≡ take bytesMost input
+        → Wrote (report input) 0 (now (out .entry)) (now (out .exit)) r) ⌝ }
 {
-    if 8 * rec.len() > Limits::BITS {
+    if rec.len() >= BYTES {
         return text::put_bytes(out, 0, b"refused,1\n");
     }
     put_listing(rec, out)

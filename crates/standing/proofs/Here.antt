@@ -9,7 +9,7 @@ use lib.Arith.{digits-div, digits-mod}
 use lib.ListN.{length, take, drop}
 use borrow.Author.Tests.{lt-ltb, le-ltb, ltb-false}
 use Rattle.bits.specs.Bits.{number, unpack, recorded, cut}
-use Rattle.bits.proofs.Bytes.{length-unpack, length-recorded, cut-recorded, cut-part}
+use Rattle.bits.proofs.Bytes.{length-unpack, length-recorded, cut-recorded, covered-bits}
 use Rattle.bits.proofs.Lists.{length-cut}
 use Rattle.bits.proofs.Numbers.{number-injective, number-cut-lt, number-cut-split}
 use Rattle.cyclic.specs.Poly.{Divides}
@@ -89,11 +89,6 @@ frame-length u p g e k = ap (λ (x : Frame). lengthIf x (checkPasses u p)) (sym 
 not-begins : (b : Bool) → (b ≡ true → ⊥) → b ≡ false
 not-begins true n = absurd (n refl)
 not-begins false n = refl
-
--- the bits of the part from the string's byte on
-pub rest-bits : (s : List ℕ) (p n : ℕ) → p + n ≤ 8 * length s
-    → cut (p % 8) n (unpack (take (length s - p / 8) (drop (p / 8) s))) ≡ cut p n (unpack s)
-rest-bits s p n h = cut-part (p / 8) (length s - p / 8) (p % 8) n p s (omega arith) (omega arith)
 
 -- ---- the frame, from the first 18 bits
 module _ (s : List ℕ) (n p : ℕ) (h : n ≤ 8 * length s) where
@@ -175,6 +170,6 @@ module _ (s : List ℕ) (n p long kind : ℕ) (h : n ≤ 8 * length s) (framed :
   pub check-is : (t : Bool) → (t ≡ true) ↔ Divides (generatorOf kind) (cut (p % 8) long (unpack part)) → t ≡ checkPasses (recorded s n) p
   check-is t e =
       let b : cut (p % 8) long (unpack part) ≡ cut p long (recorded s n) =
-      cut-part (p / 8) ((p + long + 7) / 8 - p / 8) (p % 8) long p s (omega arith) (omega arith) ∙ sym (cut-recorded p long n s fits) in
+      covered-bits s p long ∙ sym (cut-recorded p long n s fits) in
       check-seen (recorded s n) p t (said .0) (said .1 ∙ ap lengthOf (sym (said .0)))
       (subst (λ (x : List Bool). (t ≡ true) ↔ Divides (generatorOf kind) x) b e)

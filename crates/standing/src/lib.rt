@@ -2,12 +2,11 @@
 ghost use mathlib.Core.Path.{_≡_};
 ghost use mathlib.Core.Bool.{true};
 ghost use mathlib.Core.Logic.{_↔_};
-ghost use Prim.Native.Nat.{_+_, _*_, _^_, _<_, _≤_};
-ghost use lib.ListN.{length};
-ghost use Rattle.bits.specs.Bits.{unpack, recorded, cut};
+ghost use Prim.Native.Nat.{_≤_};
+ghost use Rattle.bits.specs.Bits.{number, unpack, recorded, cut, Covers};
 ghost use Rattle.cyclic.specs.Poly.{Divides};
 ghost use Rattle.format.specs.Standing.{standing};
-ghost use Rattle.format.specs.Strings.{generatorOf};
+ghost use Rattle.format.specs.Strings.{lengthOf, generatorOf};
 ghost use Rattle.format.specs.Tests.{Passes};
 ghost use Rattle.standing.specs.Frames.{frameAt, Tables};
 
@@ -20,6 +19,14 @@ pub enum Frame {
     Framed(u8, usize),
 }
 
+// The mark and the type of the string at the place `offset` of the bytes that they cover, as a number.
+fn head_at(part: &[u8], offset: usize) -> u64
+    requires { ⌜ Covers (now part) offset 18 ⌝ }
+    ensures { λ r. ⌜ r ≡ number (cut offset 18 (unpack (now (part .entry)))) ⌝ }
+{
+    bits::field(part, offset, 18)
+}
+
 // The frame at a place.
 pub fn frame_at(rec: &[u8], count: usize, place: usize) -> Frame
     requires { ⌜ Passes (now rec) count × (place ≤ count) ⌝ }
@@ -29,7 +36,8 @@ pub fn frame_at(rec: &[u8], count: usize, place: usize) -> Frame
         return Frame::Short;
     }
     let first = place / 8;
-    let head = bits::field(&rec[first..], place % 8, 18);
+    let end = (place + 18 + 7) / 8;
+    let head = head_at(&rec[first..end], place % 8);
     if head / 64 != format::MARK {
         return Frame::Unmarked;
     }
@@ -41,22 +49,16 @@ pub fn frame_at(rec: &[u8], count: usize, place: usize) -> Frame
     Frame::Framed(kind, long)
 }
 
-// Whether the generator of a type divides the `count` bits from the place `offset`, by the lent tables of both generators.
-fn check_passes(
-    part: &[u8],
-    offset: usize,
-    count: usize,
-    kind: u8,
-    t16: &[u32],
-    t24: &[u32],
-) -> bool
-    requires { ⌜ (8 ≤ count) × (offset + count ≤ 8 * length (now part)) × (offset + count < 2 ^ 32) × Tables (now t16) (now t24) ⌝ }
-    ensures { λ r. ⌜ (r ≡ true) ↔ Divides (generatorOf kind) (cut offset count (unpack (now (part .entry)))) ⌝ }
+// Whether the generator of a type divides the `long` bits of a string of that type from the place `offset` on, by the lent tables of both
+// generators. The part is just the bytes that the string covers.
+fn check_passes(part: &[u8], offset: usize, long: usize, kind: u8, t16: &[u32], t24: &[u32]) -> bool
+    requires { ⌜ Covers (now part) offset long × (long ≡ lengthOf kind) × Tables (now t16) (now t24) ⌝ }
+    ensures { λ r. ⌜ (r ≡ true) ↔ Divides (generatorOf kind) (cut offset long (unpack (now (part .entry)))) ⌝ }
 {
     if kind == 2 {
-        types::divides(part, offset, count, kind, t24)
+        types::divides(part, offset, long, kind, t24)
     } else {
-        types::divides(part, offset, count, kind, t16)
+        types::divides(part, offset, long, kind, t16)
     }
 }
 

@@ -7,7 +7,7 @@ ghost use mathlib.Core.Bool.{true};
 ghost use mathlib.Core.Logic.{_↔_};
 ghost use Prim.Native.Nat.{_+_, _*_, _^_, _<_, _≤_};
 ghost use lib.ListN.{length};
-ghost use Rattle.bits.specs.Bits.{number, unpack, cut};
+ghost use Rattle.bits.specs.Bits.{number, unpack, cut, Covers};
 ghost use Rattle.cyclic.specs.Poly.{Divides};
 ghost use Rattle.cyclic.specs.Register.{check};
 ghost use Rattle.format.specs.Strings.{lengthOf, generatorOf, checkBits};
@@ -65,29 +65,30 @@ pub fn row_of(kind: u8) -> Row
     }
 }
 
-// Whether the generator of a type divides the `count` bits from the place `offset`, by a lent table of that generator.
-pub fn divides(part: &[u8], offset: usize, count: usize, kind: u8, table: &[u32]) -> bool
-    requires { ⌜ (8 ≤ count) × (offset + count ≤ 8 * length (now part)) × (offset + count < 2 ^ 32) × TableOf kind (now table) ⌝ }
-    ensures { λ r. ⌜ (r ≡ true) ↔ Divides (generatorOf kind) (cut offset count (unpack (now (part .entry)))) ⌝ }
+// Whether the generator of a type divides the `long` bits of a string of that type from the place `offset` on, by a lent table of that
+// generator. The part is just the bytes that the string covers.
+pub fn divides(part: &[u8], offset: usize, long: usize, kind: u8, table: &[u32]) -> bool
+    requires { ⌜ Covers (now part) offset long × (long ≡ lengthOf kind) × TableOf kind (now table) ⌝ }
+    ensures { λ r. ⌜ (r ≡ true) ↔ Divides (generatorOf kind) (cut offset long (unpack (now (part .entry)))) ⌝ }
 {
     if kind == 2 {
-        cyclic::table_divides(part, offset, count, table, cyclic::tables::GENERATOR24, 24)
+        cyclic::table_divides(part, offset, long, table, cyclic::tables::GENERATOR24, 24)
     } else {
-        cyclic::table_divides(part, offset, count, table, cyclic::tables::GENERATOR16, 16)
+        cyclic::table_divides(part, offset, long, table, cyclic::tables::GENERATOR16, 16)
     }
 }
 
-// Whether the generator of a type divides the `count` bits from the place `offset`. It copies the table of that generator.
-pub fn check_passes(part: &[u8], offset: usize, count: usize, kind: u8) -> bool
-    requires { ⌜ (8 ≤ count) × (offset + count ≤ 8 * length (now part)) × (offset + count < 2 ^ 32) ⌝ }
-    ensures { λ r. ⌜ (r ≡ true) ↔ Divides (generatorOf kind) (cut offset count (unpack (now (part .entry)))) ⌝ }
+// The same, by the table of that generator, which it copies.
+pub fn check_passes(part: &[u8], offset: usize, long: usize, kind: u8) -> bool
+    requires { ⌜ Covers (now part) offset long × (long ≡ lengthOf kind) ⌝ }
+    ensures { λ r. ⌜ (r ≡ true) ↔ Divides (generatorOf kind) (cut offset long (unpack (now (part .entry)))) ⌝ }
 {
     if kind == 2 {
         let table = cyclic::tables::table24();
-        return divides(part, offset, count, kind, &table);
+        return divides(part, offset, long, kind, &table);
     }
     let table = cyclic::tables::table16();
-    divides(part, offset, count, kind, &table)
+    divides(part, offset, long, kind, &table)
 }
 
 // The check bits of the `count` bits from the place `offset`, by the generator of a type, as a number.

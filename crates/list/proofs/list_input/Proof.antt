@@ -3,7 +3,7 @@ use mathlib.Core.List.{List}
 use mathlib.Core.Path.{_≡_}
 use Prim.Native.Nat.{ℕ, _≤_}
 use native.Mathlib.Omega.{arith}
-use lib.ListN.{length, length-take, length-replicate}
+use lib.ListN.{length, length-replicate}
 use borrow.Author.Needs.{needs}
 use Rattle.text.specs.Text.{Wrote}
 use Rattle.text.proofs.Writing.{wrote-length}
@@ -36,7 +36,7 @@ slice-aggregate-report : tie.Need-slice-aggregate-report
 slice-aggregate-report c = search needs
 
 report-requires : tie.Need-report-requires
-report-requires c κs = (simp length-take (omega arith), simp length-replicate (omega arith))
+report-requires c κs = simp length-replicate (omega arith)
 
 sub-write-all : tie.Need-sub-write-all
 sub-write-all c = search needs
@@ -45,7 +45,7 @@ part-write-all-start : tie.Need-part-write-all-start
 part-write-all-start c = search needs
 
 part-write-all-end : tie.Need-part-write-all-end
-part-write-all-end c = fits (c .before .before .report .ensures) (report-length _) (length-replicate {A = ℕ} reportMost 0)
+part-write-all-end c = fits (c .before .before .report .ensures .0) (report-length _) (length-replicate {A = ℕ} reportMost 0)
 
 write-all-requires : tie.Need-write-all-requires
 write-all-requires c κs = search needs

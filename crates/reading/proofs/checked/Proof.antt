@@ -12,7 +12,6 @@ use Rattle.format.specs.declared.Answer.{Answer}
 use Rattle.format.specs.declared.Answer.the-variants.{Passed, Refused}
 use Rattle.format.specs.Reading.{beside}
 use Rattle.format.specs.Standing.{checkPasses}
-use Rattle.types.proofs.Cases.{length-least}
 use Rattle.reading.specs.Checked.{checked}
 use Rattle.reading.proofs.Chain.{check-fails, fields-tested}
 use Rattle.reading.proofs.checked.Statement.{statement}
@@ -50,8 +49,7 @@ module _ (c : tie.After-field-tests) where
 check-passes-requires : tie.Need-check-passes-requires
 check-passes-requires c κs =
     let p = c .before .pre in
-    let l = length-least _ _ (p .2) in
-    (omega (arith, l .0), p .3, omega (arith, l .1, p .0))
+    (p .0, p .2)
 
 refused-requires : tie.Need-refused-requires
 refused-requires c κs = search needs

@@ -33,7 +33,7 @@ module _ (c : tie.After-field) where
   kind = at-start .args .kind
 
   near : o ≤ 7
-  near = omega (arith, at-start .pre .0)
+  near = omega (arith, at-start .pre .0 .first)
 
   kind-is : kind ≡ typeAt u o
   kind-is = at-start .pre .1
@@ -47,8 +47,11 @@ module _ (c : tie.After-field) where
   bits : length u ≡ 8 * length (at-start .args .part .now)
   bits = length-unpack (at-start .args .part .now)
 
+  room : o + at-start .args .long ≤ 8 * length (at-start .args .part .now)
+  room = omega (arith, at-start .pre .0 .last)
+
   inside : o + lengthOf (typeAt u o) ≤ length u
-  inside = omega (arith, at-start .pre .3, long-is, ap lengthOf kind-is, bits)
+  inside = omega (arith, room, long-is, ap lengthOf kind-is, bits)
 
 -- after `check_count`: the fields and the raw bits fill what the service fields and the check bits leave
 module _ (c : tie.After-check-count) where
@@ -72,7 +75,7 @@ field-requires : tie.Need-field-requires
 field-requires c κs =
     let s = c .before in
     let b = length-unpack (s .args .part .now) in
-    (omega arith, omega (arith, length-unit (s .args .kind), s .pre .2, s .pre .3, b))
+    (omega arith, omega (arith, length-unit (s .args .kind), s .pre .2, s .pre .0 .last, b))
 
 raw-count-requires : tie.Need-raw-count-requires
 raw-count-requires c κs = search needs
@@ -93,7 +96,7 @@ add-numbers-at : tie.Need-add-numbers-at
 add-numbers-at c = search needs
 
 numbers-at-requires : tie.Need-numbers-at-requires
-numbers-at-requires c κs = (omega (arith, filled c), omega (arith, filled c, at-start (s c) .pre .3))
+numbers-at-requires c κs = (omega (arith, filled c), omega (arith, filled c, room (s c)))
 
 add-raw-at : tie.Need-add-raw-at
 add-raw-at c = search needs
@@ -103,7 +106,7 @@ raw-at-requires c κs =
     let k = sizes (c .before) in
     let t = s k in (
       omega (arith, raw-few (kind t), k .before .raw-count .ensures),
-      omega (arith, filled k, at-start t .pre .3),
+      omega (arith, filled k, room t),
       omega
           (arith, filled k, short t, near t),
     )

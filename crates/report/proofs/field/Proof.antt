@@ -1,6 +1,8 @@
 -- `report::field`: the bits of the bytes are the string's. Assumes nothing.
+use native.Mathlib.Omega.{arith}
 use borrow.Author.Needs.{needs}
-use Rattle.report.proofs.Printing.{field-is, field-fits}
+use Rattle.format.specs.Strings.{stringBits}
+use Rattle.report.proofs.Printing.{field-fits}
 use Rattle.report.proofs.field.Statement.{statement}
 use Rattle.report.proofs.field.Tie as tie
 
@@ -17,18 +19,18 @@ sub-field-2 : tie.Need-sub-field-2
 sub-field-2 c = search needs
 
 field-requires : tie.Need-field-requires
-field-requires c κs = search needs
+field-requires c κs = let p = c .before .pre in (omega arith, omega (arith, p .0 .last))
 
 cast-result : tie.Need-cast-result
 cast-result c =
     let s = c .before .before in
-    let l = field-fits (s .args .rec .now) _ _ _ _ (c .field .ensures) (s .pre .1) (s .pre .2) (s .pre .3) (s .pre .4) in
+    let p = s .pre in
+    let l = field-fits (s .args .part .now) _ _ _ _ (c .field .ensures) (p .0) (p .1) (p .2) (p .3) (p .4) in
     search needs
 
 returns : tie.Need-returns
-returns c =
-    let s = c .before .before in
-    field-is _ _ _ _ _ (c .field .ensures) (s .pre .1) (s .pre .2) (s .pre .3)
+unfolding stringBits
+returns c = c .field .ensures
 
 pub field-spec : {M : Type 1} → statement M
 field-spec = tie.close (tie.spec add-field sub-field add-field-2 sub-field-2 field-requires cast-result returns)

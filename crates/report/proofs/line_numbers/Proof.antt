@@ -1,49 +1,69 @@
--- `report::line_numbers`: each field by its bits, and reading's number. Assumes nothing.
+-- `report::line_numbers`: the service fields from the bytes that they cover, and reading's number. Assumes nothing.
+use native.Mathlib.Omega.{arith}
 use borrow.Author.Needs.{needs}
+use Rattle.bits.proofs.Bytes.{part-covers}
 use Rattle.report.proofs.Printing.{line-is}
 use Rattle.report.proofs.line_numbers.Statement.{statement}
 use Rattle.report.proofs.line_numbers.Tie as tie
 
-field-requires : tie.Need-field-requires
-field-requires c κs = search needs
+add-end : tie.Need-add-end
+add-end c = search needs
 
-field-requires-2 : tie.Need-field-requires-2
-field-requires-2 c κs = search needs
+add-end-2 : tie.Need-add-end-2
+add-end-2 c = search needs
 
-field-requires-3 : tie.Need-field-requires-3
-field-requires-3 c κs = search needs
+sub-service-numbers : tie.Need-sub-service-numbers
+sub-service-numbers c = search needs
 
-field-requires-4 : tie.Need-field-requires-4
-field-requires-4 c κs = search needs
+part-service-numbers-start : tie.Need-part-service-numbers-start
+part-service-numbers-start c = search needs
 
-field-requires-5 : tie.Need-field-requires-5
-field-requires-5 c κs = search needs
+part-service-numbers-end : tie.Need-part-service-numbers-end
+part-service-numbers-end c = search needs
+
+service-numbers-requires : tie.Need-service-numbers-requires
+service-numbers-requires c κs = part-covers _ _ 50 (omega arith)
 
 result-at-requires : tie.Need-result-at-requires
 result-at-requires c κs = search needs
 
-cast-t9 : tie.Need-cast-t9
-cast-t9 c = search needs
+cast-t13 : tie.Need-cast-t13
+cast-t13 c = search needs
+
+array-read-t16 : tie.Need-array-read-t16
+array-read-t16 c = search needs
+
+array-read-t19 : tie.Need-array-read-t19
+array-read-t19 c = search needs
+
+array-read-t22 : tie.Need-array-read-t22
+array-read-t22 c = search needs
+
+array-read-t25 : tie.Need-array-read-t25
+array-read-t25 c = search needs
+
+array-read-t28 : tie.Need-array-read-t28
+array-read-t28 c = search needs
 
 returns : tie.Need-returns
 returns c =
-    let five = c .before in
-    let four = five .before in
-    let three = four .before in
-    let two = three .before in
-    let one = two .before in
-    line-is _ _ (one .field .ensures) (two .field2 .ensures) (three .field3 .ensures) (four .field4 .ensures) (five .field5 .ensures)
-    (c .result-at .ensures)
+    line-is _ _ (omega arith) (c .before .service-numbers .ensures) (c .result-at .ensures)
 
 pub line-numbers-spec : {M : Type 1} → statement M
 line-numbers-spec =
     tie.close
     (tie.spec
-    field-requires
-    field-requires-2
-    field-requires-3
-    field-requires-4
-    field-requires-5
+    add-end
+    add-end-2
+    sub-service-numbers
+    part-service-numbers-start
+    part-service-numbers-end
+    service-numbers-requires
     result-at-requires
-    cast-t9
+    cast-t13
+    array-read-t16
+    array-read-t19
+    array-read-t22
+    array-read-t25
+    array-read-t28
     returns)

@@ -1,11 +1,22 @@
 -- `report::report`: the limit, and then the refusal or the listing. Assumes nothing.
-use mathlib.Core.Path.{_≡_}
+use mathlib.Core.List.{List}
+use mathlib.Core.Path.{_≡_, ap, _∙_, subst}
+use Prim.Native.Nat.{ℕ}
 use native.Mathlib.Omega.{arith}
+use lib.ListN.{take}
 use borrow.Author.Needs.{needs}
+use Rattle.text.specs.Text.{Wrote}
 use Rattle.report.specs.Report.{refusedLine, listed, report}
-use Rattle.report.proofs.Printing.{report-refused, report-listed}
+use Rattle.report.specs.Sizes.{bytesMost}
+use Rattle.report.proofs.Printing.{report-refused, report-listed, report-front}
 use Rattle.report.proofs.report.Statement.{statement}
 use Rattle.report.proofs.report.Tie as tie
+
+-- what is printed for the bytes, and for an input that begins with them
+printed : {bytes before after : List ℕ} {n : ℕ} → Wrote (report bytes) 0 before after n
+    → Wrote (report bytes) 0 before after n × ((input : List ℕ) → bytes ≡ take bytesMost input → Wrote (report input) 0 before after n)
+printed {bytes} {before} {after} {n} w =
+    (w, λ input e. subst (λ (text : List ℕ). Wrote text 0 before after n) (ap report e ∙ report-front input) w)
 
 -- above the limit
 module _ (c : tie.Then1) where
@@ -19,9 +30,6 @@ module _ (c : tie.Else1) where
 
 -- ---- what the code asks, in its order
 
-mul-if1 : tie.Need-mul-if1
-mul-if1 c = search needs
-
 slice-aggregate-put-bytes : tie.Need-slice-aggregate-put-bytes
 slice-aggregate-put-bytes c = search needs
 
@@ -34,7 +42,7 @@ same-length c = search needs
 returns : tie.Need-returns
 returns c =
     let w = c .before .before in
-    rw (too-long (w .before .before .before)) (w .put-bytes .ensures)
+    printed (rw (too-long (w .before .before .before)) (w .put-bytes .ensures))
 
 put-listing-requires : tie.Need-put-listing-requires
 put-listing-requires c κs = search needs
@@ -45,13 +53,12 @@ same-length-2 c = search needs
 returns-2 : tie.Need-returns-2
 returns-2 c =
     let w = c .before .before in
-    rw (not-too-long (w .before .before)) (w .put-listing .ensures)
+    printed (rw (not-too-long (w .before .before)) (w .put-listing .ensures))
 
 pub report-spec : {M : Type 1} → statement M
 report-spec =
     tie.close
     (tie.spec
-    mul-if1
     slice-aggregate-put-bytes
     put-bytes-requires
     same-length

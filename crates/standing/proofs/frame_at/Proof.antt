@@ -6,12 +6,13 @@ use native.Mathlib.Omega.{arith}
 use lib.ListN.{length}
 use borrow.Author.Needs.{needs}
 use Rattle.bits.specs.Bits.{number, unpack, cut}
-use Rattle.standing.proofs.Here.{rest-bits, frame-short, frame-unmarked, frame-beyond, frame-framed}
+use Rattle.bits.proofs.Bytes.{part-covers, covered-bits}
+use Rattle.standing.proofs.Here.{frame-short, frame-unmarked, frame-beyond, frame-framed}
 use Rattle.standing.proofs.frame_at.Statement.{statement}
 use Rattle.standing.proofs.frame_at.Tie as tie
 
--- after `field`: at least 18 bits are left, and the first 18 of them are fetched
-module _ (c : tie.After-field) where
+-- after `head_at`: at least 18 bits are left, and the first 18 of them are fetched
+module _ (c : tie.After-head-at) where
   abbrev at-start : tie.Start
   at-start = c .before .before .before .before
 
@@ -30,8 +31,8 @@ module _ (c : tie.After-field) where
   near : place + 18 ≤ count
   near = omega arith
 
-  head-is : c .field .result ≡ number (cut place 18 (unpack bytes))
-  head-is = c .field .ensures ∙ ap number (rest-bits bytes place 18 (omega (arith, inside, near)))
+  head-is : c .head-at .result ≡ number (cut place 18 (unpack bytes))
+  head-is = c .head-at .ensures ∙ ap number (covered-bits bytes place 18)
 
 -- ---- what the code asks, in its order
 
@@ -41,17 +42,23 @@ sub-if1 c = search needs
 returns : tie.Need-returns
 returns c = let s = c .before .before in frame-short _ _ _ (s .pre .0 .in-bytes) (omega arith)
 
-sub-field : tie.Need-sub-field
-sub-field c = search needs
+add-end : tie.Need-add-end
+add-end c = search needs
 
-part-field-start : tie.Need-part-field-start
-part-field-start c = search needs
+add-end-2 : tie.Need-add-end-2
+add-end-2 c = search needs
 
-part-field-end : tie.Need-part-field-end
-part-field-end c = search needs
+sub-head-at : tie.Need-sub-head-at
+sub-head-at c = search needs
 
-field-requires : tie.Need-field-requires
-field-requires c κs = search needs
+part-head-at-start : tie.Need-part-head-at-start
+part-head-at-start c = search needs
+
+part-head-at-end : tie.Need-part-head-at-end
+part-head-at-end c = search needs
+
+head-at-requires : tie.Need-head-at-requires
+head-at-requires c κs = part-covers _ _ 18 (omega arith)
 
 returns-2 : tie.Need-returns-2
 returns-2 c = let f = c .before in frame-unmarked _ _ _ (inside f) (near f) _ (head-is f) (c .if2 .taken)
@@ -67,22 +74,22 @@ sub-if3 c = search needs
 
 -- after `length_of`: the mark is there
 module _ (c : tie.After-length-of) where
-  abbrev at-field : tie.After-field
-  at-field = c .before .before
+  abbrev at-head : tie.After-head-at
+  at-head = c .before .before
 
-  marked : at-field .field .result / 64 ≡ 0x5F1
+  marked : at-head .head-at .result / 64 ≡ 0x5F1
   marked = c .before .if2 .left
 
 returns-3 : tie.Need-returns-3
 returns-3 c =
     let l = c .before in
-    let f = at-field l in
+    let f = at-head l in
     frame-beyond _ _ _ (inside f) (near f) _ (head-is f) (marked l) _ (l .length-of .ensures) (omega arith)
 
 returns-4 : tie.Need-returns-4
 returns-4 c =
     let l = c .before in
-    let f = at-field l in
+    let f = at-head l in
     frame-framed _ _ _ (inside f) (near f) _ (head-is f) (marked l) _ (l .length-of .ensures) (omega arith)
 
 pub frame-at-spec : {M : Type 1} → statement M
@@ -91,10 +98,12 @@ frame-at-spec =
     (tie.spec
     sub-if1
     returns
-    sub-field
-    part-field-start
-    part-field-end
-    field-requires
+    add-end
+    add-end-2
+    sub-head-at
+    part-head-at-start
+    part-head-at-end
+    head-at-requires
     returns-2
     cast-kind
     length-of-requires

@@ -4,10 +4,12 @@ use mathlib.Core.Bool.{Bool, true, false, cond}
 use mathlib.Core.List.{List}
 use Prim.Native.Nat.{ℕ, _+_, _≤_}
 use native.Mathlib.Omega.{arith}
-use lib.ListN.{length-take, length-drop}
+use lib.ListN.{length}
 use borrow.Author.Needs.{needs}
 use Rattle.bits.specs.Bits.{recorded}
+use Rattle.bits.proofs.Bytes.{part-covers}
 use Rattle.format.specs.Standing.{standing}
+use Rattle.format.specs.Strings.{typeAt, lengthOf}
 use Rattle.format.specs.Tests.{bitLimit, Passes}
 use Rattle.types.proofs.Cases.{length-least}
 use Rattle.standing.specs.declared.Frame.the-variants.{Short, Unmarked, Beyond, Framed}
@@ -53,8 +55,13 @@ module _ (c : tie.After-known-told) where
   framed : Framed kind long ≡ frameAt (recorded (bytes at-frame) (count at-frame)) (place at-frame)
   framed = sym found ∙ frame-is at-frame
 
+  says : (kind ≡ typeAt (recorded (bytes at-frame) (count at-frame)) (place at-frame))
+      × (long ≡ lengthOf (typeAt (recorded (bytes at-frame) (count at-frame)) (place at-frame)))
+      × (place at-frame + long ≤ length (recorded (bytes at-frame) (count at-frame)))
+  says = framed-says _ _ _ _ framed
+
   least : (125 ≤ long) × (long ≤ 375)
-  least = length-least _ _ (framed-says _ _ _ _ framed .1)
+  least = length-least _ _ (says .1)
 
   room : place at-frame + long ≤ count at-frame
   room = fits _ _ _ _ _ (passes at-frame .in-bytes) framed
@@ -109,9 +116,8 @@ part-check-passes-end c = omega (arith, room c, passes (at-frame c) .in-bytes)
 check-passes-requires : tie.Need-check-passes-requires
 check-passes-requires c κs =
     let k = c .before in (
-      omega (arith, least k .0),
-      simp (length-take, length-drop) (omega (arith, room k, passes (at-frame k) .in-bytes)),
-      omega (arith, least k .1),
+      part-covers _ _ (long k) (omega (arith, room k, passes (at-frame k) .in-bytes)),
+      says k .1 ∙ ap lengthOf (sym (says k .0)),
       at-start (at-frame k) .pre .2,
     )
 

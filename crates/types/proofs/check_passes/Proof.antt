@@ -14,7 +14,7 @@ divides-requires : tie.Need-divides-requires
 divides-requires c κs =
     let t = c .before in
     let p = t .before .before .before .pre in
-    (p .0, p .1, p .2, two-table _ (t .before .if1 .taken) (t .table24 .ensures))
+    (p .0, p .1, two-table _ (t .before .if1 .taken) (t .table24 .ensures))
 
 returns : tie.Need-returns
 returns c = search needs
@@ -29,7 +29,7 @@ divides-requires-2 : tie.Need-divides-requires-2
 divides-requires-2 c κs =
     let t = c .before in
     let p = t .before .before .before .pre in
-    (p .0, p .1, p .2, other-table _ (t .before .if1 .left) (t .table16 .ensures))
+    (p .0, p .1, other-table _ (t .before .if1 .left) (t .table16 .ensures))
 
 returns-2 : tie.Need-returns-2
 returns-2 c = search needs
