@@ -2,12 +2,13 @@
 use mathlib.Core.List.{List}
 use mathlib.Core.Path.{_≡_, sym, ap, ap₂, _∙_, subst}
 use Prim.Native.Nat.{ℕ}
+use lib.IntN.{ℤ}
 use lib.ListN.{length}
 use Rattle.format.specs.Answers.{answerCode, outcomeCode, valueCode}
 use Rattle.format.specs.Demand3.{ListPromise}
 use Rattle.format.specs.Listing.{listing}
 use Rattle.format.specs.Reading.{reading}
-use Rattle.format.specs.Values.{powerOf, countOf, IsScaled, scaling, ScalePromise}
+use Rattle.format.specs.Values.{powerOf, countOf, IsScaled, scaling, ScalePromise, accuracy, AccuracyPromise, dayCount, DayPromise}
 use Rattle.format.specs.Writing.{writing, ReadsBack, WritesBack, ReadPromise, WritePromise}
 use Rattle.format.specs.declared.Outcome.{Outcome}
 use Rattle.format.specs.declared.Reading.{Reading}
@@ -23,7 +24,7 @@ use Rattle.l1oc.specs.declared.ValueCode.{ValueCode}
 abbrev Says : Code → ℕ × ℕ → Type 0
 Says r p = (r .number ≡ p .0) × (r .value ≡ p .1)
 
-pub code-is : (r : Code) (p : ℕ × ℕ) → Says r p → r ≡ coded p
+code-is : (r : Code) (p : ℕ × ℕ) → Says r p → r ≡ coded p
 code-is r p e = ap₂ (λ (n v : ℕ). coded (n, v)) (e .0) (e .1)
 
 abbrev beside : Code → Record → ReadCode
@@ -42,10 +43,14 @@ module _ (bytes : List ℕ) (count : ℕ) where
 
   pub reads : (place : ℕ) (found : Reading) (r : Code) → ReadPromise bytes count place found → Says r (answerCode (found .answer))
       → (beside r (found .content) ≡ readCoded (reading bytes count place))
-      × (r .number ≡ 0 → WritesBack bytes count place (found .content))
+      × (ReadPromise bytes count place (reading bytes count place)
+      × (r .number ≡ 0 → WritesBack bytes count place (found .content)))
   reads place found r p e = (
     ap (λ (k : Code). beside k (found .content)) (code-is r (answerCode (found .answer)) e) ∙ ap readCoded (p .answered),
-    λ z. p .back (zero-passed (found .answer) (sym (e .0) ∙ z)),
+    (
+      subst (λ (x : Reading). ReadPromise bytes count place x) (p .answered) p,
+      λ z. p .back (zero-passed (found .answer) (sym (e .0) ∙ z)),
+    ),
   )
 
   pub writes : (place : ℕ) (content : Record) (after : List ℕ) (answer : Outcome) (r : Code)
@@ -65,10 +70,29 @@ module _ (bytes : List ℕ) (count : ℕ) where
 pub scales : (content : Record) (field : ℕ) (answer : Value) (r : ValueCode) → ScalePromise content field answer
     → (r .number ≡ valueCode answer .0) × (r .value ≡ valueCode answer .1) × (r .scaled ≡ valueCode answer .2)
     → (r ≡ valueCoded (valueCode (scaling content field)))
-    × (r .number ≡ 0 → IsScaled (countOf content field) (powerOf (content .kind) field) (r .scaled))
+    × (ScalePromise content field (scaling content field)
+    × (r .number ≡ 0 → IsScaled (countOf content field) (powerOf (content .kind) field) (r .scaled)))
 scales content field answer r p e = (
   (λ i. record { number = e .0 i; value = e .1 i; scaled = e .2 i }) ∙ ap (λ (v : Value). valueCoded (valueCode v)) (p .answered),
-  λ z.
-      subst (IsScaled (countOf content field) (powerOf (content .kind) field)) (sym (e .2))
-      (p .exact (valueCode answer .2) (zero-number answer (sym (e .0) ∙ z))),
+  (
+    subst (ScalePromise content field) (p .answered) p,
+    λ z.
+        subst (IsScaled (countOf content field) (powerOf (content .kind) field)) (sym (e .2))
+        (p .exact (valueCode answer .2) (zero-number answer (sym (e .0) ∙ z))),
+  ),
+)
+
+-- the answer of a factor, and of an interval and a day
+pub factors : (f : ℤ) (answer : Outcome) (r : Code) → AccuracyPromise f answer → Says r (outcomeCode answer)
+    → (r ≡ coded (outcomeCode (accuracy f))) × AccuracyPromise f (accuracy f)
+factors f answer r p e = (
+  code-is r (outcomeCode answer) e ∙ ap (λ (a : Outcome). coded (outcomeCode a)) (p .answered),
+  subst (AccuracyPromise f) (p .answered) p,
+)
+
+pub days : (n4 nt : ℤ) (answer : Outcome) (r : Code) → DayPromise n4 nt answer → Says r (outcomeCode answer)
+    → (r ≡ coded (outcomeCode (dayCount n4 nt))) × DayPromise n4 nt (dayCount n4 nt)
+days n4 nt answer r p e = (
+  code-is r (outcomeCode answer) e ∙ ap (λ (a : Outcome). coded (outcomeCode a)) (p .answered),
+  subst (DayPromise n4 nt) (p .answered) p,
 )

@@ -8,8 +8,9 @@ ghost use Rattle.format.specs.Answers.{outcomeCode, valueCode};
 ghost use Rattle.format.specs.Demand3.{ListPromise};
 ghost use Rattle.format.specs.Listing.{listing};
 ghost use Rattle.format.specs.Reading.{reading};
-ghost use Rattle.format.specs.Values.{powerOf, countOf, IsScaled, scaling, accuracy, dayCount};
-ghost use Rattle.format.specs.Writing.{writing, ReadsBack, WritesBack, WritePromise};
+ghost use Rattle.format.specs.Values.{powerOf, countOf, IsScaled, scaling, ScalePromise};
+ghost use Rattle.format.specs.Values.{accuracy, AccuracyPromise, dayCount, DayPromise};
+ghost use Rattle.format.specs.Writing.{writing, ReadsBack, WritesBack, ReadPromise, WritePromise};
 ghost use Rattle.l1oc.specs.Codes.{coded, readCoded, valueCoded};
 
 // What reading answers: 0 and 0 beside the record, or a refusal beside a blank one.
@@ -64,6 +65,7 @@ pub extern "C" fn l1oc_list(bytes: &[u8], count: usize, list: &mut [u32]) -> Cod
 #[no_mangle]
 pub extern "C" fn l1oc_read(bytes: &[u8], count: usize, place: usize) -> ReadCode
     ensures { λ r. ⌜ r ≡ readCoded (reading (now (bytes .entry)) count place) ⌝ }
+    ensures { λ _. ⌜ ReadPromise (now (bytes .entry)) count place (reading (now (bytes .entry)) count place) ⌝ }
     ensures { λ r. ⌜ (r .number ≡ 0 → WritesBack (now (bytes .entry)) count place (r .content)) ⌝ }
 {
     let found = reading::read(bytes, count, place);
@@ -93,6 +95,7 @@ pub extern "C" fn l1oc_write(bytes: &mut [u8], count: usize, place: usize, conte
 #[no_mangle]
 pub extern "C" fn l1oc_scaled(content: Record, field: usize) -> ValueCode
     ensures { λ r. ⌜ r ≡ valueCoded (valueCode (scaling content field)) ⌝ }
+    ensures { λ _. ⌜ ScalePromise content field (scaling content field) ⌝ }
     ensures { λ r. ⌜ (r .number ≡ 0 → IsScaled (countOf content field) (powerOf (content .kind) field) (r .scaled)) ⌝ }
 {
     let answer = values::scaled(content, field);
@@ -102,7 +105,7 @@ pub extern "C" fn l1oc_scaled(content: Record, field: usize) -> ValueCode
 // The centimetres of an accuracy factor.
 #[no_mangle]
 pub extern "C" fn l1oc_accuracy(factor: i64) -> Code
-    ensures { λ r. ⌜ r ≡ coded (outcomeCode (accuracy factor)) ⌝ }
+    ensures { λ r. ⌜ (r ≡ coded (outcomeCode (accuracy factor))) × AccuracyPromise factor (accuracy factor) ⌝ }
 {
     let answer = values::accuracy(factor);
     answers::outcome_code(answer)
@@ -111,7 +114,7 @@ pub extern "C" fn l1oc_accuracy(factor: i64) -> Code
 // The days from 1 January 1996 to day `nt` of the four-year interval `n4`.
 #[no_mangle]
 pub extern "C" fn l1oc_day_count(n4: i64, nt: i64) -> Code
-    ensures { λ r. ⌜ r ≡ coded (outcomeCode (dayCount n4 nt)) ⌝ }
+    ensures { λ r. ⌜ (r ≡ coded (outcomeCode (dayCount n4 nt))) × DayPromise n4 nt (dayCount n4 nt) ⌝ }
 {
     let answer = values::day_count(n4, nt);
     answers::outcome_code(answer)

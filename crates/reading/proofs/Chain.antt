@@ -11,13 +11,14 @@ use Rattle.format.specs.declared.Reading.{Reading}
 use Rattle.format.specs.declared.Record.{Record}
 use Rattle.format.specs.declared.Refusal.{Refusal}
 use Rattle.format.specs.declared.Refusal.the-variants.{CheckFails}
+use Rattle.format.specs.Answers.{answerCode}
 use Rattle.format.specs.Reading.{recordAt, beside, reading}
 use Rattle.format.specs.Records.{fieldTests}
 use Rattle.format.specs.Standing.{checkPasses, stringTests}
 use Rattle.format.specs.Tests.{when, _then_, placeTests}
 use Rattle.format.specs.Writing.{ReadPromise}
 use Rattle.format.proofs.Order.{refused-then, passed-then, when-yes, when-no}
-use Rattle.format.proofs.Theorems.{read-back, reading-covered}
+use Rattle.format.proofs.Theorems.{read-back, read-numbered, reading-covered}
 use Rattle.standing.specs.declared.Frame.{Frame}
 use Rattle.standing.specs.declared.Frame.the-variants.{Framed}
 use Rattle.standing.specs.Frames.{frameAt, frameTests}
@@ -81,6 +82,7 @@ pub promised : (bytes : List ℕ) (count place : ℕ) → ((i : ℕ) → getD by
     → ReadPromise bytes count place r
 promised bytes count place below e = record {
   answered = e;
+  numbered = ap (λ (x : Reading). answerCode (x .answer)) e ∙ read-numbered bytes count place;
   back = λ d. rw e (read-back bytes count place below (ap (λ (x : Reading). x .answer) (sym e) ∙ d));
   covered = λ others l same. e ∙ sym (reading-covered bytes others count place l same);
 }

@@ -9,7 +9,7 @@ ghost use mathlib.Core.Path.{_≡_};
 ghost use Prim.Native.Nat.{_<_, _^_};
 ghost use lib.Ieee.{binary64, ofBits};
 ghost use lib.IntN.{pos, natAbs};
-ghost use Rattle.format.specs.Values.{powerOf, scaledBits, IsScaled, ScalePromise, accuracy, dayCount};
+ghost use Rattle.format.specs.Values.{powerOf, scaledBits, IsScaled, ScalePromise, AccuracyPromise, DayPromise};
 
 // Centimetres for the accuracy factors from -15 to 14.
 const CENTIMETRES: [usize; 30] = [
@@ -98,7 +98,7 @@ pub fn scaled(r: Record, field: usize) -> Value
 
 // The centimetres of an accuracy factor; 0 for 15, which is undefined.
 pub fn accuracy(factor: i64) -> Outcome
-    ensures { λ a. ⌜ a ≡ accuracy factor ⌝ }
+    ensures { λ a. ⌜ AccuracyPromise factor a ⌝ }
 {
     if !ranges::between(-15, factor, 15) {
         return Outcome::NotGiven(Refusal::OutOfRange(19));
@@ -112,7 +112,7 @@ pub fn accuracy(factor: i64) -> Outcome
 
 // The days from 1 January 1996 to day `nt` of the four-year interval `n4`.
 pub fn day_count(n4: i64, nt: i64) -> Outcome
-    ensures { λ d. ⌜ d ≡ dayCount n4 nt ⌝ }
+    ensures { λ d. ⌜ DayPromise n4 nt d ⌝ }
 {
     if !ranges::between(1, n4, types::rows::INTERVALS) {
         return Outcome::NotGiven(Refusal::OutOfRange(10));

@@ -10,16 +10,18 @@ use Rattle.bits.proofs.Bytes.{length-unpack, packed-unpack, put-part}
 use Rattle.bits.proofs.Lists.{length-put}
 use Rattle.format.specs.declared.Answer.{Answer}
 use Rattle.format.specs.declared.Answer.the-variants.{Passed, Refused}
+use Rattle.format.specs.declared.Outcome.{Outcome}
 use Rattle.format.specs.declared.Outcome.the-variants.{Given, NotGiven}
 use Rattle.format.specs.declared.Record.{Record}
 use Rattle.format.specs.declared.Refusal.{Refusal}
 use Rattle.format.specs.declared.Refusal.the-variants.{RunsOut}
+use Rattle.format.specs.Answers.{outcomeCode}
 use Rattle.format.specs.Records.{recordTests}
 use Rattle.format.specs.Strings.{lengthOf}
-use Rattle.format.specs.Tests.{when, _then_, giving, above, placeTests}
-use Rattle.format.specs.Writing.{string, writeTests, writing, ReadsBack, WritePromise}
+use Rattle.format.specs.Tests.{when, _then_, giving, returned, above, placeTests}
+use Rattle.format.specs.Writing.{string, writeTests, writeLines, writing, ReadsBack, WritePromise}
 use Rattle.format.proofs.Order.{passed-then, refused-then, then-pass, when-pass}
-use Rattle.format.proofs.RoundTrips.{written-back}
+use Rattle.format.proofs.Theorems.{written-back, write-numbered}
 use Rattle.format.proofs.Writing.{Typed, length-string}
 
 -- the tests after those of the place
@@ -60,11 +62,21 @@ later-says count place r e =
 
 -- ---- what writing promises
 
+-- the answer by number and value
+numbered : (bytes : List ℕ) (count place : ℕ) (r : Record) {a : Outcome} → a ≡ writing (length bytes) count place r
+    → outcomeCode a ≡ returned (writeLines (length bytes) count place r) (place + lengthOf (r .kind))
+numbered bytes count place r e = ap outcomeCode e ∙ write-numbered (length bytes) count place r
+
 -- where it is refused
 pub refuses : (bytes : List ℕ) (count place : ℕ) (r : Record) (x : Refusal) → NotGiven x ≡ writing (length bytes) count place r
     → WritePromise bytes count place r (NotGiven x) bytes
 refuses bytes count place r x e =
-    record { answered = e; left = refl; back = λ next f. let z : _≡_ {A = ℕ} 0 1 = cc in absurd (omega arith) }
+    record {
+      answered = e;
+      left = refl;
+      numbered = numbered bytes count place r e;
+      back = λ next f. let z : _≡_ {A = ℕ} 0 1 = cc in absurd (omega arith);
+    }
 
 -- where the string is put into the part of the bytes that it covers
 module _ (bytes t : List ℕ) (count place long : ℕ) (r : Record) (holds : Typed r) (el : long ≡ lengthOf (r .kind))
@@ -112,4 +124,4 @@ module _ (bytes t : List ℕ) (count place long : ℕ) (r : Record) (holds : Typ
         (written-back bytes count place (place + long) r holds (sym passes))
 
     pub writes : WritePromise bytes count place r (Given (place + long)) after
-    writes = record { answered = passes; left = after-bytes; back = λ next f. back }
+    writes = record { answered = passes; left = after-bytes; numbered = numbered bytes count place r passes; back = λ next f. back }

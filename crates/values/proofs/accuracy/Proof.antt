@@ -18,6 +18,7 @@ use Rattle.format.specs.declared.Refusal.the-variants.{OutOfRange}
 use Rattle.format.specs.Fields.{inRange}
 use Rattle.format.specs.Records.{ranges}
 use Rattle.format.specs.Values.{centimetres, aboveLeast, accuracy}
+use Rattle.format.proofs.Numbered.{accuracy-promised}
 use Rattle.values.proofs.accuracy.Statement.{statement}
 use Rattle.values.proofs.accuracy.Tie as tie
 
@@ -49,7 +50,7 @@ returns : tie.Need-returns
 returns c =
     let s = c .before .before in
     let t = simp (toZ-ofZ {w = w64} (s .fits .factor)) at (c .before .between .ensures) in
-    no-factor (s .args .factor) (sym t ∙ not-true _ (c .if1 .taken))
+    accuracy-promised (no-factor (s .args .factor) (sym t ∙ not-true _ (c .if1 .taken)))
 
 -- what the test leaves
 module _ (c : tie.Else1) where
@@ -89,7 +90,7 @@ returns-2 : tie.Need-returns-2
 returns-2 c =
     let p = c .before in
     let e : aboveLeast (factor p) ≡ 30 = sym (place p) ∙ c .if2 .taken in
-    ap (λ (n : ℕ). Given (getD centimetres n 0)) (sym e) ∙ in-table (factor p) (passed p)
+    accuracy-promised (ap (λ (n : ℕ). Given (getD centimetres n 0)) (sym e) ∙ in-table (factor p) (passed p))
 
 mul-t8 : tie.Need-mul-t8
 mul-t8 c = record { fits = omega (arith, place (c .before), few (c .before)) }
@@ -98,7 +99,9 @@ array-read-t11 : tie.Need-array-read-t11
 array-read-t11 c = let n = c .if2 .left in omega (arith, place (c .before), few (c .before))
 
 returns-3 : tie.Need-returns-3
-returns-3 c = ap (λ (n : ℕ). Given (getD centimetres n 0)) (place (c .before)) ∙ in-table (factor (c .before)) (passed (c .before))
+returns-3 c =
+    let p = c .before in
+    accuracy-promised (ap (λ (n : ℕ). Given (getD centimetres n 0)) (place p) ∙ in-table (factor p) (passed p))
 
 pub accuracy-spec : {M : Type 1} → statement M
 accuracy-spec = tie.close (tie.spec between-requires returns add-i cast-i returns-2 mul-t8 array-read-t11 returns-3)

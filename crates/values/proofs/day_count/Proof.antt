@@ -16,6 +16,7 @@ use Rattle.format.specs.declared.Refusal.the-variants.{OutOfRange}
 use Rattle.format.specs.Fields.{inRange}
 use Rattle.format.specs.Records.{ranges}
 use Rattle.format.specs.Values.{dayCount}
+use Rattle.format.proofs.Numbered.{days-promised}
 use Rattle.values.proofs.Fields.{inside}
 use Rattle.values.proofs.day_count.Statement.{statement}
 use Rattle.values.proofs.day_count.Tie as tie
@@ -63,7 +64,7 @@ returns : tie.Need-returns
 returns c =
     let s = c .before .before in
     let t = simp (toZ-ofZ {w = w64} (s .fits .n4)) at (c .before .between .ensures) in
-    no-interval (s .args .n4) (s .args .nt) (sym t ∙ not-true _ (c .if1 .taken))
+    days-promised (no-interval (s .args .n4) (s .args .nt) (sym t ∙ not-true _ (c .if1 .taken)))
 
 between-requires-2 : tie.Need-between-requires-2
 between-requires-2 c κs = search needs
@@ -73,7 +74,8 @@ returns-2 c =
     let s = c .before .before .before .before in
     let t = simp (toZ-ofZ {w = w64} (s .fits .n4)) at (c .before .before .before .between .ensures) in
     let u = simp (toZ-ofZ {w = w64} (s .fits .nt)) at (c .before .between2 .ensures) in
-    no-day (s .args .n4) (s .args .nt) (sym t ∙ not-false _ (c .before .before .if1 .left)) (sym u ∙ not-true _ (c .if2 .taken))
+    days-promised
+    (no-day (s .args .n4) (s .args .nt) (sym t ∙ not-false _ (c .before .before .if1 .left)) (sym u ∙ not-true _ (c .if2 .taken)))
 
 -- what both tests leave
 module _ (c : tie.Else2) where
@@ -117,8 +119,9 @@ sub-t13 c = omega (arith, nt-cast c .least)
 
 returns-3 : tie.Need-returns-3
 returns-3 c =
-    ap₂ (λ (a b : ℕ). Given (1461 * (a - 1) + b - 1)) (n4-cast c .same) (nt-cast c .same)
-    ∙ counted (start c .args .n4) (start c .args .nt) (interval-passed c) (day-passed c)
+    days-promised
+    (ap₂ (λ (a b : ℕ). Given (1461 * (a - 1) + b - 1)) (n4-cast c .same) (nt-cast c .same)
+    ∙ counted (start c .args .n4) (start c .args .nt) (interval-passed c) (day-passed c))
 
 pub day-count-spec : {M : Type 1} → statement M
 day-count-spec =

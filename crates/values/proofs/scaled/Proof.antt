@@ -16,10 +16,12 @@ use Rattle.format.specs.declared.Refusal.{Refusal}
 use Rattle.format.specs.declared.Refusal.the-variants.{OutOfRange}
 use Rattle.format.specs.declared.Value.{Value}
 use Rattle.format.specs.declared.Value.the-variants.{Number, NoValue}
+use Rattle.format.specs.Answers.{valueCode}
 use Rattle.format.specs.Tests.{when, _then_}
 use Rattle.format.specs.Records.{recordTests}
 use Rattle.format.specs.Types.{places}
-use Rattle.format.specs.Values.{powerOf, countOf, scaledBits, IsScaled, scaling}
+use Rattle.format.specs.Values.{powerOf, countOf, scaledBits, IsScaled, scaling, ScalePromise}
+use Rattle.format.proofs.Theorems.{scale-numbered}
 use Rattle.values.proofs.Fields.{powered, count-at, count-few}
 use Rattle.values.proofs.scaled.Statement.{statement}
 use Rattle.values.proofs.scaled.Tie as tie
@@ -39,6 +41,17 @@ module _ (r : Record) (n : ℕ) where
     given : (powerOf (r .kind) n ≡ 0 → ⊥) → Number (ofBits binary64 (scaledBits (countOf r n) (powerOf (r .kind) n))) ≡ scaling r n
     unfolding scaling when _then_
     given z = rw (e, ne-eqb _ _ z)
+
+  -- a promise, from an answer that is the definition's and what holds of a value
+  promised : {v : Value} → v ≡ scaling r n → ((x : Float) → v ≡ Number x → IsScaled (countOf r n) (powerOf (r .kind) n) x)
+      → ScalePromise r n v
+  promised {v} e exact =
+      let s = scale-numbered r n in
+      record {
+        answered = e;
+        numbered = (ap (λ (x : Value). valueCode x .0) e ∙ s .0, ap (λ (x : Value). valueCode x .1) e ∙ s .1);
+        exact = exact;
+      }
 
 -- a refusal is no number, and a number is one float
 abbrev floatOf : Value → Float
@@ -120,10 +133,9 @@ returns : tie.Need-returns
 returns c =
     let p = c .before in
     let t = tested p in
-    record {
-      answered = refused-number (content t) (field t) (passed p) (sym (p .power-of .ensures) ∙ c .if1 .taken);
-      exact = none (OutOfRange (field t)) _;
-    }
+    promised (content t) (field t)
+    (refused-number (content t) (field t) (passed p) (sym (p .power-of .ensures) ∙ c .if1 .taken))
+    (none (OutOfRange (field t)) _)
 
 sub-i : tie.Need-sub-i
 sub-i c = inside c .0
@@ -140,10 +152,9 @@ scale-requires c κs = rw (toZ-ofZ {w = w64} (record { sfits = c .scale-arg .giv
 returns-2 : tie.Need-returns-2
 returns-2 c =
     let t = c .before .before .before in
-    record {
-      answered = refused-record (content t) (field t) _ (sym (t .record-tests .ensures) ∙ c .before .tests .given .1);
-      exact = none _ _;
-    }
+    promised (content t) (field t)
+    (refused-record (content t) (field t) _ (sym (t .record-tests .ensures) ∙ c .before .tests .given .1))
+    (none _ _)
 
 returns-3 : tie.Need-returns-3
 returns-3 c =
@@ -151,10 +162,8 @@ returns-3 c =
     let z = toZ-ofZ {w = w64} (record { sfits = c .before .scale-arg .given }) ∙ count-is p in
     let k = at-power p .power-of .ensures in
     let is = c .scale .ensures .0 ∙ ap₂ (λ (z : ℤ) (k : ℕ). ofBits binary64 (scaledBits z k)) z k in
-    record {
-      answered = ap Number is ∙ given (r p) (n p) (passed (at-power p)) (power-there p);
-      exact = one (c .scale .result) (IsScaled (countOf (r p) (n p)) (powerOf (r p .kind) (n p))) (rw (← z, ← k) (c .scale .ensures .1));
-    }
+    promised (r p) (n p) (ap Number is ∙ given (r p) (n p) (passed (at-power p)) (power-there p))
+    (one (c .scale .result) (IsScaled (countOf (r p) (n p)) (powerOf (r p .kind) (n p))) (rw (← z, ← k) (c .scale .ensures .1)))
 
 pub scaled-spec : {M : Type 1} → statement M
 scaled-spec =
