@@ -1,54 +1,37 @@
--- `list::list_input`: what is printed fits the buffer. Assumes nothing.
-use mathlib.Core.List.{List}
-use mathlib.Core.Path.{_≡_}
-use Prim.Native.Nat.{ℕ, _≤_}
+-- `list::list_input`: what was read lies in the buffer. Assumes nothing.
 use native.Mathlib.Omega.{arith}
-use lib.ListN.{length, length-replicate}
 use borrow.Author.Needs.{needs}
-use Rattle.text.specs.Text.{Wrote}
-use Rattle.text.proofs.Writing.{wrote-length}
-use Rattle.report.specs.Sizes.{reportMost}
-use Rattle.report.proofs.Found.{report-length}
+use Rattle.list.proofs.Room.{came}
 use Rattle.list.proofs.list_input.Statement.{statement}
 use Rattle.list.proofs.list_input.Tie as tie
 
--- What is written into a buffer with room for it ends within the buffer.
-fits : {text before after : List ℕ} {next room : ℕ} → Wrote text 0 before after next → length text ≤ room → length before ≡ room
-    → next ≤ length after
-fits w h l = omega (arith, w .placed, wrote-length w (omega (arith, w .placed)))
+slice-aggregate-read-input : tie.Need-slice-aggregate-read-input
+slice-aggregate-read-input c = search needs
 
-slice-aggregate-read-full : tie.Need-slice-aggregate-read-full
-slice-aggregate-read-full c = search needs
+read-input-requires : tie.Need-read-input-requires
+read-input-requires c κs = search needs
 
-read-full-requires : tie.Need-read-full-requires
-read-full-requires c κs = search needs
+enum-known-read : tie.Need-enum-known-read
+enum-known-read c = search needs
 
-sub-report : tie.Need-sub-report
-sub-report c = search needs
+sub-print-report : tie.Need-sub-print-report
+sub-print-report c = search needs
 
-part-report-start : tie.Need-part-report-start
-part-report-start c = search needs
+part-print-report-start : tie.Need-part-print-report-start
+part-print-report-start c = search needs
 
-part-report-end : tie.Need-part-report-end
-part-report-end c = search needs
+part-print-report-end : tie.Need-part-print-report-end
+part-print-report-end c =
+    let k = c .before .before in
+    let r = k .before .before .before in
+    let n = came (k .read .given .1) (r .read-input .ensures) in
+    omega (arith, n)
 
-slice-aggregate-report : tie.Need-slice-aggregate-report
-slice-aggregate-report c = search needs
+print-report-requires : tie.Need-print-report-requires
+print-report-requires c κs = search needs
 
-report-requires : tie.Need-report-requires
-report-requires c κs = simp length-replicate (omega arith)
-
-sub-write-all : tie.Need-sub-write-all
-sub-write-all c = search needs
-
-part-write-all-start : tie.Need-part-write-all-start
-part-write-all-start c = search needs
-
-part-write-all-end : tie.Need-part-write-all-end
-part-write-all-end c = fits (c .before .before .report .ensures .0) (report-length _) (length-replicate {A = ℕ} reportMost 0)
-
-write-all-requires : tie.Need-write-all-requires
-write-all-requires c κs = search needs
+enum-told : tie.Need-enum-told
+enum-told c = search needs
 
 slice-aggregate-complain : tie.Need-slice-aggregate-complain
 slice-aggregate-complain c = search needs
@@ -66,17 +49,14 @@ pub list-input-spec : {M : Type 1} → statement M
 list-input-spec =
     tie.close
     (tie.spec
-    slice-aggregate-read-full
-    read-full-requires
-    sub-report
-    part-report-start
-    part-report-end
-    slice-aggregate-report
-    report-requires
-    sub-write-all
-    part-write-all-start
-    part-write-all-end
-    write-all-requires
+    slice-aggregate-read-input
+    read-input-requires
+    enum-known-read
+    sub-print-report
+    part-print-report-start
+    part-print-report-end
+    print-report-requires
+    enum-told
     slice-aggregate-complain
     complain-requires
     returns
