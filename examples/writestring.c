@@ -2,7 +2,7 @@
  * Writes a string of type 11 with a satellite's position into a buffer, reads it back, and prints the bytes.
  *
  *     cc -std=c99 -Iinclude examples/writestring.c target/staticlib/libl1oc.a -o writestring
- *     ./writestring [bit place, 0 to 70]
+ *     ./writestring [bit place, 0 to 70 [x y z, in km]]
  */
 #include <inttypes.h>
 #include <stdio.h>
@@ -13,10 +13,44 @@ enum {
     LENGTH = 40 /* bytes: 320 bits, and the string has 250 */
 };
 
-/* A count of the fields x, y and z is 2^-20 km. */
-static int64_t counts(double km)
+/* The fields x, y and z: a count is 2^-20 km, and counts go from -(2^39 - 1) to 2^39 - 1. */
+#define COUNTS_PER_KM 1048576.0
+#define MOST_COUNTS 549755813887.0
+
+/*
+ * The count nearest to so many km, halves away from zero. The product is exact, since it is by a power of two, and so is what is left
+ * of it after the whole counts: only the rounding itself changes the value. Stops where the field can't hold it.
+ */
+static int64_t counts(const char *field, const char *text)
 {
-    return (int64_t)(km * 1048576.0);
+    char *end;
+    double product = strtod(text, &end) * COUNTS_PER_KM;
+    int64_t whole;
+    double rest;
+
+    if (end == text || *end != '\0' || product != product) {
+        fprintf(stderr, "writestring: %s is not a number: '%s'\n", field, text);
+        exit(2);
+    }
+    if (product <= -(MOST_COUNTS + 0.5) || product >= MOST_COUNTS + 0.5) {
+        fprintf(stderr, "writestring: %s is out of its range, -524287.999999 to 524287.999999 km: '%s'\n", field, text);
+        exit(2);
+    }
+    whole = (int64_t)product; /* towards zero */
+    rest = product - (double)whole;
+    return rest >= 0.5 ? whole + 1 : rest <= -0.5 ? whole - 1 : whole;
+}
+
+static size_t bit_place(const char *text)
+{
+    char *end;
+    unsigned long place = strtoul(text, &end, 10);
+
+    if (*text < '0' || *text > '9' || *end != '\0') {
+        fprintf(stderr, "writestring: the bit place is not a number: '%s'\n", text);
+        exit(2);
+    }
+    return place;
 }
 
 int main(int argc, char **argv)
@@ -25,30 +59,21 @@ int main(int argc, char **argv)
     struct l1oc_record record = {0}; /* what the type does not use has to be 0 */
     struct l1oc_answer written;
     struct l1oc_reading reading;
-    size_t place = 3;
+    size_t place;
     size_t i;
 
-    if (argc > 2) {
-        fprintf(stderr, "usage: writestring [bit place]\n");
+    if (argc != 1 && argc != 2 && argc != 5) {
+        fprintf(stderr, "usage: writestring [bit place [x y z]]\n");
         return 2;
     }
-    if (argc == 2) {
-        char *end;
-
-        place = (size_t)strtoul(argv[1], &end, 10);
-        if (end == argv[1] || *end != '\0') {
-            fprintf(stderr, "writestring: %s is not a number\n", argv[1]);
-            return 2;
-        }
-    }
-
+    place = argc > 1 ? bit_place(argv[1]) : 3;
     record.kind = 11;
     record.satellite = 5;
-    record.time = 21600;                    /* 21600 * 2 s: noon */
-    record.numbers[0] = counts(10300.5);    /* field 10, x */
-    record.numbers[1] = counts(-21004.125); /* field 11, y */
-    record.numbers[2] = counts(9876.0625);  /* field 12, z */
-    record.minus = 1u << 3;                 /* field 13, the rate of x, is minus zero */
+    record.time = 21600;                                                /* 21600 * 2 s: noon */
+    record.numbers[0] = counts("x", argc > 2 ? argv[2] : "10300.5");    /* field 10 */
+    record.numbers[1] = counts("y", argc > 2 ? argv[3] : "-21004.125"); /* field 11 */
+    record.numbers[2] = counts("z", argc > 2 ? argv[4] : "9876.0625");  /* field 12 */
+    record.minus = 1u << 3;                                             /* field 13, the rate of x, is minus zero */
 
     written = l1oc_write(bytes, LENGTH, 8 * LENGTH, place, record);
     if (written.number != 0) {
