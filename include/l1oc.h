@@ -58,27 +58,87 @@ struct l1oc_answer {
  * fields, from 10 on; the other types have raw bits instead. What a type does not use is 0. Every byte of a record is one of a member,
  * so that memcmp compares two of them.
  *
- * Information fields with their power of two, where they have one:
- *   type 10: 10 N4, 11 NT, 12 M, 13 frame size, 14 tb (90 s), 15 16 ages, 17 18 modes, 19 20 accuracy factors (signed) of ephemeris and
- *            clock, 21 tau -38, 22 gamma -48, 23 beta -57, 24 tau_c -31, 25 its rate -49
- *   type 11: 10 11 12 x y z -20 (km), 13 x rate -30 (km/s), 14 15 antenna dx dy -10 (m), 16 reserve
- *   type 12: 10 antenna dz -10 (m), 11 12 y and z rates -30 (km/s), 13 14 15 accelerations -39 (km/s^2), 16 L2 shift -38,
- *            17 GPS shift -38, 18 reserve
- *   type 20: 10 orbit, 11 Ns, 12 age EA, 13 day NA, 14 signals, 15 M, 16 tau -20, 17 lambda -20, 18 its time -5, 19 di -20,
- *            20 eccentricity -20, 21 omega -15, 22 dT -9, 23 its rate -14, 24 reserve
- *   type 25: 10 day, 11 12 xp yp -14, 13 14 their rates -14, 15 16 their accelerations -14, 17 B0 -16, 18 B1 -16, 19 B2 -16, 20 c_A -7,
- *            21 c_F -4, 22 c_Ap, 23 UTC-TAI (signed), 24 reserve
+ * The information fields by their numbers. A record holds field n as a count, numbers[n - 10]; +-m means from -m to m. The values are
+ * rounded; where one count is given as a power of two, l1oc_scaled gives them exactly.
+ *
+ *   number   field                                             one count          counts         values
+ *
+ *   type 10: with 11 and 12 the immediate data of satellite j
+ *   10       N4, four-year interval, the first from 1996       1 interval         1 to 31
+ *   11       NT, day of the interval                           1 day              1 to 1461
+ *   12       M, modification of the satellite                  1                  0 to 7         0 Glonass-M, 1 and 3 -K1, 2 -K2
+ *   13       frame size: strings up to the next of type 10     1 string           0 to 63        0: not told
+ *   14       tb, moment of the data in the day                 90 s               0 to 959       0 to 86310 s
+ *   15 16    ages of ephemeris and clock data                  6 h                1 to 255       6 to 1530 h
+ *   17 18    modes of ephemeris and clock data                 1                  0 to 3         1 relayed, 2 propagated, 3 by links
+ *   19 20    accuracy factors of ephemeris and clock data      1                  +-15           in cm by l1oc_accuracy
+ *   21       tau, correction to GLONASS time                   2^-38 s            +-(2^31 - 1)   +-7.8e-3 s
+ *   22       gamma, relative deviation of the frequency        2^-48              +-(2^18 - 1)   +-0.9e-9
+ *   23       beta, half the rate of gamma                      2^-57 1/s          +-(2^14 - 1)   +-1.1e-13 1/s
+ *   24       tau_c, correction from GLONASS to Moscow time     2^-31 s            +-(2^39 - 1)   +-256 s
+ *   25       rate of tau_c                                     2^-49 s/s          +-(2^12 - 1)   +-0.7e-11 s/s
+ *
+ *   type 11:
+ *   10 11 12 x y z                                             2^-20 km           +-(2^39 - 1)   +-5.2e5 km
+ *   13       rate of x                                         2^-30 km/s         +-(2^34 - 1)   +-16 km/s
+ *   14 15    antenna dx dy                                     2^-10 m            +-(2^12 - 1)   +-4 m
+ *   16       reserve                                           1                  0 to 7
+ *
+ *   type 12:
+ *   10       antenna dz                                        2^-10 m            +-(2^12 - 1)   +-4 m
+ *   11 12    rates of y z                                      2^-30 km/s         +-(2^34 - 1)   +-16 km/s
+ *   13 14 15 accelerations of x y z                            2^-39 km/s^2       +-(2^14 - 1)   +-2.9e-8 km/s^2
+ *   16       L2 shift: time of L2OCp less that of L1OCd        2^-38 s            +-(2^17 - 1)   +-4.8e-7 s
+ *   17       GPS shift: GPS less GLONASS time, part of 1 s     2^-38 s            +-(2^29 - 1)   +-2e-3 s
+ *   18       reserve                                           1                  0 to 255
+ *
+ *   type 20: the almanac of satellite j
+ *   10       orbit; not 0 is refused with 8                    1                  0 to 3
+ *   11       Ns, satellites that an almanac is sent for        1                  0 to 63
+ *   12       EA, age of the almanac                            1 day              0 to 63
+ *   13       NA, day of the almanac in its four-year interval  1 day              1 to 1461
+ *   14       signals sent: 16 L1, 8 L2, 4 L3, 2 and 1 reserve  1                  0 to 31
+ *   15       M, modification of the satellite                  1                  0 to 7         0 Glonass-M, 1 and 3 -K1, 2 -K2
+ *   16       tau, correction to GLONASS time                   2^-20 s            +-(2^13 - 1)   +-7.8e-3 s
+ *   17       lambda, longitude of the first ascending node     2^-20 half-cycles  +-(2^20 - 1)   +-1 half-cycle
+ *   18       time of lambda in the day                         2^-5 s             0 to 1411200   0 to 44100 s
+ *   19       di, inclination less 64.8 degrees                 2^-20 half-cycles  +-(2^14 - 1)   +-0.0156 half-cycles
+ *   20       eccentricity                                      2^-20              0 to 2^15 - 1  0 to 0.031 (*)
+ *   21       omega, argument of the perigee                    2^-15 half-cycles  +-(2^15 - 1)   +-1 half-cycle
+ *   22       dT, draconic period less 40544 s                  2^-9 s             +-(2^18 - 1)   +-512 s
+ *   23       rate of dT                                        2^-14 s/orbit      +-63           +-3.9e-3 s/orbit
+ *   24       reserve                                           1                  0 to 2^23 - 1
+ *
+ *   type 25: the rotation of the Earth, the ionosphere, UTC and TAI
+ *   10       day of the data in its four-year interval         1 day              1 to 1461
+ *   11 12    xp yp, position of the pole                       2^-14 arcsec       +-(2^15 - 1)   +-2 arcsec (*)
+ *   13 14    rates of xp yp                                    2^-14 arcsec/day   +-255          +-1.6e-2 arcsec/day (*)
+ *   15 16    accelerations of xp yp                            2^-14 arcsec/day^2 +-63           +-3.8e-3 arcsec/day^2 (*)
+ *   17       B0, UT1 less UTC                                  2^-16 s            +-(2^24 - 1)   +-256 s
+ *   18       B1, its change in a mean solar day                2^-16 s/day        +-511          +-7.8e-3 s/day
+ *   19       B2, the rate of that change                       2^-16 s/day^2      +-127          +-1.9e-3 s/day^2
+ *   20       c_A, factor of the electrons in the layer F2      2^-7               0 to 511       0 to 3.99 (*)
+ *   21       c_F, solar activity F10.7                         2^-4 sfu           0 to 8000      0 to 500 sfu
+ *   22       c_Ap, geomagnetic activity                        1 nT               0 to 500       0 to 500 nT
+ *   23       UTC-TAI                                           1 s                +-255          +-255 s
+ *   24       reserve                                           1                  0 to 2^26 - 1
+ *
+ * A half-cycle is 180 degrees, an sfu 1e-22 W/(m^2 Hz). Days and tb are those of Moscow time. Mode 0 and modifications 4 to 7 have no
+ * meaning yet.
+ * (*) The whole width of the field, as the workshop's paper decides (document 01). The control document's tables have 0.03, 1, 8e-3, 2e-3,
+ *     and 4, which is too wide for the field.
+ * (+) The workshop's paper decides; the control document has 0 too, as a reserve.
  */
 struct l1oc_record {
     uint8_t kind;                  /* field 1: the type, 0 to 63 */
-    uint8_t satellite;             /* field 2: satellite number j, 1 to 63; in type 20 the almanac's satellite */
-    uint8_t signal;                /* field 3: signal flag, 0 good */
-    uint8_t validity;              /* field 4: data flag, 0 good */
-    uint8_t call;                  /* field 5: call, 0 to 15 */
-    uint8_t attitude;              /* field 6: attitude, 0 or 1 */
+    uint8_t satellite;             /* field 2: satellite number j, 1 to 63 (+); in type 20 the almanac's satellite */
+    uint8_t signal;                /* field 3: signal flag, 0 good, 1 not */
+    uint8_t validity;              /* field 4: data flag of this string, 0 good, 1 not */
+    uint8_t call;                  /* field 5: call of the ground control, 0 to 15; not for users */
+    uint8_t attitude;              /* field 6: attitude, 0 to the Sun, 1 turning ahead of it or changing between the two */
     uint8_t correction;            /* field 7: correction code KP: 0 none, 1 day longer, 2 undecided, 3 day shorter */
-    uint8_t next;                  /* field 8: A, 1 where the correction is at the end of the next string */
-    uint64_t time;                 /* field 9: OMB, the time mark count in units of 2 s, 0 to 43199 */
+    uint8_t next;                  /* field 8: A: 1 where the correction is at the end of the next string, else 0 */
+    uint64_t time;                 /* field 9: OMB, the time mark count: 2 s each, 0 to 43199 (0 to 86398 s) */
     int64_t numbers[L1OC_NUMBERS]; /* numbers[i]: field 10 + i, in counts; reserve fields too */
     uint16_t minus;                /* minus-zero mark: bit i, the lowest is bit 0, where field 10 + i is minus zero; its number is 0 then */
     uint8_t raw[L1OC_RAW_BYTES];   /* raw bits of the other types, high bit first: 59 of type 1, 301 of type 2, else 184; then zeros */
