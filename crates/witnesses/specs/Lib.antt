@@ -1,3 +1,4 @@
+pub mod Strings
 pub mod Starred
 pub mod Recordings
 pub mod Writable
