@@ -1,5 +1,6 @@
 pub mod Starred
 pub mod Tests
 pub mod Witnesses
+pub mod Needed
 pub mod Writable
 pub mod Values

@@ -63,3 +63,23 @@ widest-burst d first last p q h e =
     let a : t .first ≤ first = t .none-before first (differs p q first (v .0)) in
     let b : last ≤ t .last = t .none-after last (differs p q last (w .0)) in
     (t, omega (arith, t .near), omega (arith, t .near))
+
+-- A burst that is narrower than it may be: the same of its own width c.
+pub narrower-burst : (c d first last : ℕ) (p q : List Bool) → apart c first last p q ≡ true → suc last ≡ first + c → c ≤ d
+    → (t : Burst d p q) × (t .first ≡ first) × (t .last ≡ last)
+narrower-burst c d first last p q h e n =
+    let t = widest-burst c first last p q h e in
+    let u = t .0 in (
+      record {
+        same-length = u .same-length;
+        first = u .first;
+        last = u .last;
+        first-differs = u .first-differs;
+        last-differs = u .last-differs;
+        none-before = u .none-before;
+        none-after = u .none-after;
+        near = omega (arith, u .near);
+      },
+      t .1,
+      t .2,
+    )

@@ -1,5 +1,6 @@
 pub mod Strings
 pub mod Starred
 pub mod Recordings
+pub mod Needed
 pub mod Writable
 pub mod Values

@@ -1,3 +1,3 @@
 // Examples, proved of the definitions. No code. The starred examples of document 01: `specs/Starred` has the rows, `specs/Strings` the
 // bytes that they read, `proofs/Starred` the theorem. Recordings that meet the premises of demand 3: `specs/Recordings` has their bytes,
-// `proofs/Witnesses` the facts.
+// `proofs/Witnesses` the facts. Recordings that meet all premises but one, so that demand 3 fails: `specs/Needed` and `proofs/Needed`.
