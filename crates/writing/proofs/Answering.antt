@@ -19,7 +19,7 @@ use Rattle.format.specs.Answers.{outcomeCode}
 use Rattle.format.specs.Records.{recordTests}
 use Rattle.format.specs.Strings.{lengthOf}
 use Rattle.format.specs.Tests.{when, _then_, giving, returned, above, placeTests}
-use Rattle.format.specs.Writing.{string, writeTests, writeLines, writing, ReadsBack, WritePromise}
+use Rattle.format.specs.Writing.{string, writeTests, writeLines, writing, bytesAfter, ReadsBack, WritePromise}
 use Rattle.format.proofs.Order.{passed-then, refused-then, then-pass, when-pass}
 use Rattle.format.proofs.Theorems.{written-back, write-numbered}
 use Rattle.format.proofs.Writing.{Typed, length-string}
@@ -78,13 +78,23 @@ refuses bytes count place r x e =
       back = λ next f. let z : _≡_ {A = ℕ} 0 1 = cc in absurd (omega arith);
     }
 
--- where the string is put into the part of the bytes that it covers
-module _ (bytes t : List ℕ) (count place long : ℕ) (r : Record) (holds : Typed r) (el : long ≡ lengthOf (r .kind))
-    (placed : placeTests (length bytes) count place ≡ Passed) (passed : later count place r ≡ Passed)
-    (inside : count ≤ 8 * length bytes) where
-  room : place + long ≤ count
-  room = omega (arith, later-says count place r passed .1)
+-- where all tests pass: the promise is kept by any bytes that are those of the definition
+module _ (bytes : List ℕ) (count place long : ℕ) (r : Record) (holds : Typed r) (el : long ≡ lengthOf (r .kind))
+    (placed : placeTests (length bytes) count place ≡ Passed) (passed : later count place r ≡ Passed) where
+  passes : Given (place + long) ≡ writing (length bytes) count place r
+  passes = ap (λ (n : ℕ). Given (place + n)) el ∙ all-pass (length bytes) count place r placed passed
 
+  pub writes : (after : List ℕ) → after ≡ bytesAfter (Given (place + long)) place r bytes
+      → WritePromise bytes count place r (Given (place + long)) after
+  writes after left =
+      let back : ReadsBack after count place r =
+      subst (λ (b : List ℕ). ReadsBack b count place r) (sym left)
+      (written-back bytes count place (place + long) r holds (sym passes)) in
+      record { answered = passes; left = left; numbered = numbered bytes count place r passes; back = λ next f. back }
+
+-- the string put into the part of the bytes that it covers
+module _ (bytes t : List ℕ) (place long : ℕ) (r : Record) (holds : Typed r) (el : long ≡ lengthOf (r .kind))
+    (room : place + long ≤ 8 * length bytes) where
   abbrev first : ℕ
   first = place / 8
 
@@ -99,7 +109,6 @@ module _ (bytes t : List ℕ) (count place long : ℕ) (r : Record) (holds : Typ
     after-bits : unpack after ≡ put place (string r) (unpack bytes)
     after-bits =
         let l = length-string r holds in
-        let k = room in
         put-part bytes t first size (place % 8) place (string r) (omega arith) (omega arith) (omega arith) e
 
     after-length : length after ≡ length bytes
@@ -112,16 +121,5 @@ module _ (bytes t : List ℕ) (count place long : ℕ) (r : Record) (holds : Typ
           length-put place (string r) (unpack bytes) (omega (arith, length-unpack bytes, length-string r holds, room)),
         )
 
-    after-bytes : after ≡ packed (length bytes) (put place (string r) (unpack bytes))
-    after-bytes = sym (packed-unpack after below) ∙ ap₂ packed after-length after-bits
-
-    passes : Given (place + long) ≡ writing (length bytes) count place r
-    passes = ap (λ (n : ℕ). Given (place + n)) el ∙ all-pass (length bytes) count place r placed passed
-
-    back : ReadsBack after count place r
-    back =
-        subst (λ (b : List ℕ). ReadsBack b count place r) (sym after-bytes)
-        (written-back bytes count place (place + long) r holds (sym passes))
-
-    pub writes : WritePromise bytes count place r (Given (place + long)) after
-    writes = record { answered = passes; left = after-bytes; numbered = numbered bytes count place r passes; back = λ next f. back }
+    pub part-put : after ≡ bytesAfter (Given (place + long)) place r bytes
+    part-put = sym (packed-unpack after below) ∙ ap₂ packed after-length after-bits

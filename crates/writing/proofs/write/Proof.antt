@@ -8,16 +8,18 @@ use lib.ListN.{length, length-take, length-drop}
 use mir.Syntax.{w8}
 use borrow.Author.Needs.{needs, length-unmapped, elem-fits-field}
 use Rattle.format.specs.declared.Answer.the-variants.{Passed}
+use Rattle.format.specs.declared.Outcome.the-variants.{Given}
 use Rattle.format.specs.declared.Record.{Record}
 use Rattle.format.specs.declared.Refusal.the-variants.{RunsOut}
 use Rattle.format.specs.Records.{rawBytes, recordTests}
 use Rattle.format.specs.Types.{places}
 use Rattle.format.specs.Strings.{lengthOf}
 use Rattle.format.specs.Tests.{when, _then_, above, placeTests, Passes}
+use Rattle.format.specs.Writing.{bytesAfter, WritePromise}
 use Rattle.format.proofs.Tests.{place-passes}
 use Rattle.format.proofs.Writing.{Typed}
 use Rattle.types.proofs.Cases.{length-least}
-use Rattle.writing.proofs.Answering.{later, place-refuses, later-refuses, later-says, refuses, writes}
+use Rattle.writing.proofs.Answering.{later, place-refuses, later-refuses, later-says, refuses, writes, part-put}
 use Rattle.writing.proofs.write.Statement.{statement}
 use Rattle.writing.proofs.write.Tie as tie
 
@@ -88,6 +90,10 @@ module _ (c : tie.After-enum-told2) where
         raw = length-unmapped _ (r t .raw) rawBytes (g .1 .1 .0 .1 .0 .1);
         bytes = λ i. elem-fits-field w8 w8 (r t .raw) _ i (g .1 .1 .0 .1 .1) tt .fits;
       }
+
+  promised : (after : List ℕ) → after ≡ bytesAfter (Given (place t + long tested)) (place t) (r t) (bytes t)
+      → WritePromise (bytes t) (count t) (place t) (r t) (Given (place t + long tested)) after
+  promised = writes (bytes t) (count t) (place t) (long tested) (r t) holds (long-is tested) (placed t) late-passes
 
 -- ---- what the code asks, in its order
 
@@ -160,8 +166,9 @@ returns-3 c =
     let s = c .before .before in
     let p = s .before .before in
     let e = t p in
-    writes (bytes e) (s .put-string .last .0) (count e) (place e) _ (r e) (holds p) (long-is (tested p)) (placed e) (late-passes p)
-    (inside e .0 .in-bytes) (λ i. c .slice-known2 .given i .fits) (s .put-string .ensures)
+    promised p _
+    (part-put (bytes e) (s .put-string .last .0) (place e) _ (r e) (holds p) (long-is (tested p))
+    (omega (arith, room p, inside e .0 .in-bytes)) (λ i. c .slice-known2 .given i .fits) (s .put-string .ensures))
 
 pub write-spec : {M : Type 1} → statement M
 write-spec =
