@@ -1,7 +1,7 @@
 -- What the loop over a type's places has written. Assumes nothing.
 use mathlib.Core.Path.{_≡_, refl, sym, ap, ap₂, _∙_, subst}
 use mathlib.Core.Bool.{Bool, true, false, _||_, true≢false, false≢true}
-use mathlib.Core.List.{List, [], _∷_, _++_}
+use mathlib.Core.List.{List, [], _∷_, _++_, map}
 use Prim.Native.Nat.{ℕ, zero, suc, _+_, _-_, _/_, _%_, _^_, _≤_, _<_}
 use native.Mathlib.Numerals.{add-one}
 use native.Mathlib.Omega.{arith}
@@ -143,19 +143,19 @@ module _ {from kind minus : ℕ} {numbers : List ℤ} {u₀ u : List Bool} {at m
   pub written-same : {z : List Bool} → z ≡ u → WrittenSoFar from kind minus numbers u₀ z at marks i
   written-same e = subst (λ (p : List Bool). WrittenSoFar from kind minus numbers u₀ p at marks i) (sym e) c
 
-  -- the place at hand: its field, as the row has it
-  module _ {row : Row} (d : Describes (placesOf kind) row) (l : i < places) where
+  -- the place at hand: its field, as the widths and the row have it
+  module _ {ws : List ℕ} {row : Row} (ew : ws ≡ map width (placesOf kind)) (d : Describes (placesOf kind) row) (l : i < places) where
     abbrev f : Field
     f = getD (placesOf kind) i absent
 
     abbrev w : ℕ
-    w = getD (row .widths) i 0
+    w = getD ws i 0
 
     abbrev s : Bool
     s = getD (row .signed) i false
 
     width-is : w ≡ width f
-    width-is = width-at d i
+    width-is = width-at (placesOf kind) ew i
 
     sign-is : s ≡ isSigned f
     sign-is = sign-at d i
@@ -166,10 +166,10 @@ module _ {from kind minus : ℕ} {numbers : List ℤ} {u₀ u : List Bool} {at m
         ∙ ap (λ (k : ℕ). f ∷ drop k (placesOf kind)) (sym (add-one i))
 
     -- it is narrow, and lies in the bits
-    pub narrow-here : getD (row .widths) i 0 ≤ widest
+    pub narrow-here : getD ws i 0 ≤ widest
     narrow-here = omega (arith, width-is, widths kind i .0)
 
-    pub room-here : at + getD (row .widths) i 0 ≤ from + total (placesOf kind)
+    pub room-here : at + getD ws i 0 ≤ from + total (placesOf kind)
     room-here = omega (arith, c .place, ap total fields-here, width-is)
 
     -- its number and its bit of the mark
@@ -200,20 +200,20 @@ module _ {from kind minus : ℕ} {numbers : List ℤ} {u₀ u : List Bool} {at m
           let z = size-unsigned f v m sound-here (here .0) e in
           (z .0, omega (arith, z .1, ap (λ (n : ℕ). 2 ^ n) width-is))
 
-      pub code-asks : (getD (row .widths) i 0 ≤ widest)
+      pub code-asks : (getD ws i 0 ≤ widest)
           × (getD (row .signed) i false ≡ true
-          → (2 ≤ getD (row .widths) i 0) × (natAbs v < 2 ^ (getD (row .widths) i 0 - 1)))
-          × (getD (row .signed) i false ≡ false → (v ≡ pos (natAbs v)) × (natAbs v < 2 ^ getD (row .widths) i 0))
+          → (2 ≤ getD ws i 0) × (natAbs v < 2 ^ (getD ws i 0 - 1)))
+          × (getD (row .signed) i false ≡ false → (v ≡ pos (natAbs v)) × (natAbs v < 2 ^ getD ws i 0))
       code-asks = (narrow-here, (λ e. signed-size (sym sign-is ∙ e)), (λ e. unsigned-size (sym sign-is ∙ e)))
 
-      module _ {x : ℕ} (ex : x ≡ number (codeOf (getD (row .signed) i false) (getD (row .widths) i 0) v m)) where
+      module _ {x : ℕ} (ex : x ≡ number (codeOf (getD (row .signed) i false) (getD ws i 0) v m)) where
         long : length (code f v m) ≡ w
         long = length-code f v m sound-here ∙ sym width-is
 
         x-is : x ≡ number (code f v m)
         x-is = ex ∙ ap₂ (λ (b : Bool) (k : ℕ). number (codeOf b k v m)) sign-is width-is ∙ ap number (code-of f v m)
 
-        pub x-fits : x < 2 ^ getD (row .widths) i 0
+        pub x-fits : x < 2 ^ getD ws i 0
         x-fits = omega (arith, x-is, number-lt (code f v m), ap (λ (n : ℕ). 2 ^ n) long)
 
         bits-here : bits w x ≡ code f v m
@@ -229,8 +229,8 @@ module _ {from kind minus : ℕ} {numbers : List ℤ} {u₀ u : List Bool} {at m
             ap (λ (fs : List Field). codes fs (drop i numbers) (markBits (markWidth - i) marks)) fields-here
             ∙ ap₂ (λ (vs : List ℤ) (ms : List Bool). codes (f ∷ drop (i + 1) (placesOf kind)) vs ms) numbers-here marks-here
 
-        pub written-on : {z : List Bool} → z ≡ put at (bits (getD (row .widths) i 0) x) u
-            → WrittenSoFar from kind minus numbers u₀ z (at + getD (row .widths) i 0) (marks / 2) (i + 1)
+        pub written-on : {z : List Bool} → z ≡ put at (bits (getD ws i 0) x) u
+            → WrittenSoFar from kind minus numbers u₀ z (at + getD ws i 0) (marks / 2) (i + 1)
         written-on {z} e =
             let rest = drop (i + 1) (placesOf kind) in
             let lm : length more ≡ total rest = length-fit (every-drop sound (placesOf kind) (i + 1) (information-sound kind)) (here .1) in

@@ -1,7 +1,7 @@
 -- What the loop over a type's places has decoded. Assumes nothing.
 use mathlib.Core.Path.{_≡_, refl, sym, ap, ap₂, _∙_}
 use mathlib.Core.Bool.{Bool, true, false, true≢false, _&&_}
-use mathlib.Core.List.{List, [], _∷_}
+use mathlib.Core.List.{List, [], _∷_, map}
 use Prim.Native.Nat.{ℕ, suc, _+_, _-_, _*_, _^_, _≤_, _<_}
 use native.Mathlib.Nat.{mul-assoc, mul-comm, mul-add}
 use native.Mathlib.Numerals.{add-one}
@@ -115,19 +115,19 @@ module _ {u : List Bool} {from kind : ℕ} {numbers : List ℤ} {minus at i : �
       let wide : 2 ^ places ≤ 2 ^ markWidth = pow-mono marks-cover in
       omega (arith, c .mark, markOf-lt ms, ap (λ (k : ℕ). 2 ^ k) n, wide)
 
-  -- the place at hand: its field, as the row has it
-  module _ {row : Row} (d : Describes (placesOf kind) row) (l : i < places) where
+  -- the place at hand: its field, as the widths and the row have it
+  module _ {ws : List ℕ} {row : Row} (ew : ws ≡ map width (placesOf kind)) (d : Describes (placesOf kind) row) (l : i < places) where
     abbrev f : Field
     f = getD (placesOf kind) i absent
 
     abbrev w : ℕ
-    w = getD (row .widths) i 0
+    w = getD ws i 0
 
     abbrev s : Bool
     s = getD (row .signed) i false
 
     width-is : w ≡ width f
-    width-is = width-at d i
+    width-is = width-at (placesOf kind) ew i
 
     sign-is : s ≡ isSigned f
     sign-is = sign-at d i
@@ -138,18 +138,18 @@ module _ {u : List Bool} {from kind : ℕ} {numbers : List ℤ} {minus at i : �
         ∙ ap (λ (k : ℕ). f ∷ drop k (placesOf kind)) (sym (add-one i))
 
     -- it is narrow, and lies in the bits
-    pub width-here : getD (row .widths) i 0 ≤ widest
+    pub width-here : getD ws i 0 ≤ widest
     width-here = omega (arith, width-is, widths kind i .0)
 
-    pub signed-here : getD (row .signed) i false ≡ true → 2 ≤ getD (row .widths) i 0
+    pub signed-here : getD (row .signed) i false ≡ true → 2 ≤ getD ws i 0
     signed-here t = omega (arith, width-is, widths kind i .1 (sym sign-is ∙ t))
 
-    pub inside-here : at + getD (row .widths) i 0 ≤ from + total (placesOf kind)
+    pub inside-here : at + getD ws i 0 ≤ from + total (placesOf kind)
     inside-here = omega (arith, c .place, ap total next, width-is)
 
     -- its bits are read
-    module _ (h : from + total (placesOf kind) ≤ length u) {x : ℕ} (ex : x ≡ number (cut at (getD (row .widths) i 0) u)) where
-      pub small-here : x < 2 ^ getD (row .widths) i 0
+    module _ (h : from + total (placesOf kind) ≤ length u) {x : ℕ} (ex : x ≡ number (cut at (getD ws i 0) u)) where
+      pub small-here : x < 2 ^ getD ws i 0
       small-here = rw ex (number-cut-lt at w u (omega (arith, inside-here)))
 
       room : at + width f ≤ length u
@@ -161,8 +161,8 @@ module _ {u : List Bool} {from kind : ℕ} {numbers : List ℤ} {minus at i : �
       on : drop (width f) (drop at u) ≡ drop (at + w) u
       on = drop-drop (width f) at u ∙ ap (λ (k : ℕ). drop (at + k) u) (sym width-is)
 
-      module _ {v : ℤ} {m : ℕ} (ev : v ≡ numberOf (getD (row .signed) i false) (getD (row .widths) i 0) x)
-          (em : m ≡ markBit (getD (row .signed) i false) (getD (row .widths) i 0) x i) where
+      module _ {v : ℤ} {m : ℕ} (ev : v ≡ numberOf (getD (row .signed) i false) (getD ws i 0) x)
+          (em : m ≡ markBit (getD (row .signed) i false) (getD ws i 0) x i) where
         v-is : v ≡ value f (take (width f) (drop at u))
         v-is = ev ∙ ap₂ (λ (b : Bool) (k : ℕ). numberOf b k x) sign-is width-is ∙ number-here f u at x room x-is
 
@@ -201,7 +201,7 @@ module _ {u : List Bool} {from kind : ℕ} {numbers : List ℤ} {minus at i : �
             drop-set-lt (i + 1) numbers i v (omega arith)
             ∙ ap (λ (l : List ℤ). drop 1 l) (sym here ∙ c .rest ∙ ap (λ (k : ℕ). replicate k (pos 0)) n)
 
-        pub read-on : ReadSoFar u from kind (set numbers i v) (minus + m) (at + getD (row .widths) i 0) (i + 1)
+        pub read-on : ReadSoFar u from kind (set numbers i v) (minus + m) (at + getD ws i 0) (i + 1)
         read-on =
             let fs = drop (i + 1) (placesOf kind) in
             let vs = values fs (drop (at + w) u) in

@@ -49,8 +49,8 @@ pub fn numbers_at(part: &[u8], from: usize, to: usize, kind: u8) -> Numbers
     requires { ⌜ (to ≡ from + total (placesOf kind)) × (to ≤ 8 * length (now part)) ⌝ }
     ensures { λ r. ⌜ Decoded kind (drop from (unpack (now (part .entry)))) r ⌝ }
 {
+    let widths = types::widths_of(kind);
     let row = types::row_of(kind);
-    let widths = row.widths;
     let signs = row.signed;
     let mut numbers = [0i64; PLACES];
     let mut minus: Mark = 0;
@@ -127,8 +127,8 @@ pub fn put_numbers(
     ensures { λ _. ⌜ unpack (now (part .exit))
         ≡ put from (codes (placesOf kind) numbers (markBits markWidth minus)) (unpack (now (part .entry))) ⌝ }
 {
+    let widths = types::widths_of(kind);
     let row = types::row_of(kind);
-    let widths = row.widths;
     let signs = row.signed;
     let mut held = Held {
         at: from,

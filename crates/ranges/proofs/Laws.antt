@@ -1,7 +1,7 @@
 -- Laws of the test of ranges. Assumes nothing.
 use mathlib.Core.Path.{_≡_, refl, sym, ap, _∙_}
 use mathlib.Core.Bool.{Bool, true, false, cond, _&&_, and-eq-true-iff}
-use mathlib.Core.List.{List, [], _∷_, _++_}
+use mathlib.Core.List.{List, [], _∷_, _++_, map}
 use Prim.Native.Nat.{ℕ, zero, suc, _+_, _-_, _^_, _<_, _≤_}
 use native.Mathlib.Omega.{arith}
 use native.Mathlib.Nat.{add-zero}
@@ -47,13 +47,14 @@ pub ranges-end : (t i n : ℕ) (vs : List ℤ) → places ≤ i → Passed ≡ r
 unfolding ranges
 ranges-end t i n vs h = let l : length (placesOf t) ≤ i = omega (arith, length-information t) in rw (drop-of-length-le (placesOf t))
 
--- a turn of the code's loop: it tests the number at i by the row, x is what it finds
-module _ (t i : ℕ) (vs : List ℤ) {row : Row} {lo hi v : ℤ} {x : Bool} (d : Describes (placesOf t) row) (h : i < places)
+-- a turn of the code's loop: it tests the number at i by the widths and the row, x is what it finds
+module _ (t i : ℕ) (vs : List ℤ) {ws : List ℕ} {row : Row} {lo hi v : ℤ} {x : Bool} (ew : ws ≡ map width (placesOf t))
+    (d : Describes (placesOf t) row) (h : i < places)
     (l : length vs ≡ places) (a : lo ≡ getD (row .least) i (pos 0)) (b : hi ≡ getD (row .most) i (pos 0)) (e : v ≡ getD vs i (pos 0))
-    (k : x ≡ takes (getD (row .widths) i 0) lo hi v) where
+    (k : x ≡ takes (getD ws i 0) lo hi v) where
   in-range : x ≡ inRange (getD (placesOf t) i absent) (getD vs i (pos 0))
   unfolding inRange
-  in-range = rw (k, a, b, e, width-at d i, least-at d i, most-at d i, unused-at t i)
+  in-range = rw (k, a, b, e, width-at (placesOf t) ew i, least-at d i, most-at d i, unused-at t i)
 
   row-turn : ranges (drop i (placesOf t)) (drop i vs) (10 + i)
       ≡ cond x (ranges (drop (i + 1) (placesOf t)) (drop (i + 1) vs) (10 + (i + 1))) (Refused (OutOfRange (10 + i)))

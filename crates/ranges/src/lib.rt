@@ -38,8 +38,8 @@ fn takes(width: u8, least: i64, most: i64, v: i64) -> bool
 fn number_ranges(kind: u8, numbers: [i64; PLACES]) -> Answer
     ensures { λ a. ⌜ a ≡ ranges (placesOf kind) numbers 10 ⌝ }
 {
+    let widths = types::widths_of(kind);
     let row = types::row_of(kind);
-    let widths = row.widths;
     let least = row.least;
     let most = row.most;
     let mut i: usize = 0;

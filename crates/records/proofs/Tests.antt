@@ -1,7 +1,7 @@
 -- Laws of the tests of places that are not used and of the minus-zero mark. Assumes nothing.
 use mathlib.Core.Path.{_≡_, refl, sym, ap, _∙_}
 use mathlib.Core.Bool.{Bool, true, false, cond, not, _&&_, _||_}
-use mathlib.Core.List.{List}
+use mathlib.Core.List.{List, map}
 use Prim.Native.Nat.{ℕ, zero, suc, _+_, _-_, _/_, _%_, _^_, _<_, _≤_}
 use native.Mathlib.Decide.{decLt}
 use native.Mathlib.Nat.{pow-suc}
@@ -60,16 +60,16 @@ pub unused-end : (t i : ℕ) (vs : List ℤ) → places ≤ i → false ≡ unus
 unfolding unused
 unused-end t i vs h = let l : length (placesOf t) ≤ i = omega (arith, length-information t) in rw (drop-of-length-le (placesOf t))
 
--- ---- a turn of the code's loop: it tests the number at i by the row, x is what it finds
+-- ---- a turn of the code's loop: it tests the number at i by its width, x is what it finds
 
-module _ (t i : ℕ) (vs : List ℤ) {row : Row} {v : ℤ} {x : Bool} (d : Describes (placesOf t) row) (h : i < places)
-    (l : length vs ≡ places) (e : v ≡ getD vs i (pos 0)) (k : x ≡ (eqb (getD (row .widths) i 0) 0 && not (isZero v))) where
+module _ (t i : ℕ) (vs : List ℤ) {ws : List ℕ} {v : ℤ} {x : Bool} (ew : ws ≡ map width (placesOf t)) (h : i < places)
+    (l : length vs ≡ places) (e : v ≡ getD vs i (pos 0)) (k : x ≡ (eqb (getD ws i 0) 0 && not (isZero v))) where
   unused-turn : unused (drop i (placesOf t)) (drop i vs) ≡ (x || unused (drop (i + 1) (placesOf t)) (drop (i + 1) vs))
   unfolding unused
   unused-turn =
       let g : i < length (placesOf t) = omega (arith, length-information t) in
       let m : i < length vs = omega arith in
-      rw (k, e, width-at d i, unused-at t i, drop-cons (placesOf t) i absent, drop-cons vs i (pos 0), add-one i)
+      rw (k, e, width-at (placesOf t) ew i, unused-at t i, drop-cons (placesOf t) i absent, drop-cons vs i (pos 0), add-one i)
 
   pub unused-next : x ≡ false → unused (drop (i + 1) (placesOf t)) (drop (i + 1) vs) ≡ unused (drop i (placesOf t)) (drop i vs)
   unused-next f = rw (unused-turn, f)

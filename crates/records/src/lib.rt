@@ -24,8 +24,7 @@ fn misplaced(width: u8, v: i64) -> bool
 fn unused(kind: u8, numbers: [i64; PLACES]) -> bool
     ensures { λ b. ⌜ b ≡ unused (placesOf kind) numbers ⌝ }
 {
-    let row = types::row_of(kind);
-    let widths = row.widths;
+    let widths = types::widths_of(kind);
     let mut i: usize = 0;
     while i < PLACES {
         if misplaced(widths[i], numbers[i]) {

@@ -1,7 +1,7 @@
--- Facts of every type's fields, computed; and what a row of the code's table says at a place. Assumes nothing.
+-- Facts of every type's fields, computed; and what the widths and a row of the code's tables say at a place. Assumes nothing.
 use mathlib.Core.Path.{_≡_, refl}
 use mathlib.Core.Bool.{Bool, true, false, Bool·beq, false≢true}
-use mathlib.Core.List.{List}
+use mathlib.Core.List.{List, map}
 use Prim.Native.Nat.{ℕ}
 use lib.Dec.{eqb}
 use lib.IntN.{pos}
@@ -33,11 +33,11 @@ width-tells f = at (eqb (width f) 0) (isAbsent f)
 pub unused-at : (t i : ℕ) → eqb (width (getD (placesOf t) i absent)) 0 ≡ isAbsent (getD (placesOf t) i absent)
 unused-at t i = width-tells (getD (placesOf t) i absent) (every-at wide (placesOf t) i refl (all-wide t))
 
--- ---- a row at a place
-module _ {fs : List Field} {row : Row} (d : Describes fs row) (i : ℕ) where
-  pub width-at : getD (row .widths) i 0 ≡ width (getD fs i absent)
-  width-at = rw (d .same, List·getD-map width fs i absent)
+-- ---- the widths and a row at a place
+pub width-at : (fs : List Field) {ws : List ℕ} → ws ≡ map width fs → (i : ℕ) → getD ws i 0 ≡ width (getD fs i absent)
+width-at fs e i = rw (e, List·getD-map width fs i absent)
 
+module _ {fs : List Field} {row : Row} (d : Describes fs row) (i : ℕ) where
   pub sign-at : getD (row .signed) i false ≡ isSigned (getD fs i absent)
   sign-at = rw (d .same, List·getD-map isSigned fs i absent)
 

@@ -1,15 +1,18 @@
 // What a string of a type is: its length, its check bits, its raw bits and its fields.
 pub mod rows;
 
+use format::PLACES;
 use rows::Row;
 ghost use mathlib.Core.Path.{_≡_};
 ghost use mathlib.Core.Bool.{true};
+ghost use mathlib.Core.List.{map};
 ghost use mathlib.Core.Logic.{_↔_};
 ghost use Prim.Native.Nat.{_+_, _*_, _^_, _<_, _≤_};
 ghost use lib.ListN.{length};
 ghost use Rattle.bits.specs.Bits.{number, unpack, cut, Covers};
 ghost use Rattle.cyclic.specs.Poly.{Divides};
 ghost use Rattle.cyclic.specs.Register.{check};
+ghost use Rattle.format.specs.Fields.{width};
 ghost use Rattle.format.specs.Strings.{lengthOf, generatorOf, checkBits};
 ghost use Rattle.format.specs.Types.{placesOf, rawCount};
 ghost use Rattle.types.specs.Rows.{Describes};
@@ -51,7 +54,22 @@ pub fn raw_count(kind: u8) -> usize
     }
 }
 
-// The fields of a type, from field 10 on.
+// The widths of a type's fields, from field 10 on: its line of the table.
+pub fn widths_of(kind: u8) -> [u8; PLACES]
+    ensures { λ r. ⌜ r ≡ map width (placesOf kind) ⌝ }
+{
+    let lines = rows::WIDTHS;
+    match kind {
+        10 => lines[0],
+        11 => lines[1],
+        12 => lines[2],
+        20 => lines[3],
+        25 => lines[4],
+        _ => lines[5],
+    }
+}
+
+// What else the fields of a type are, from field 10 on.
 pub fn row_of(kind: u8) -> Row
     ensures { λ r. ⌜ Describes (placesOf kind) r ⌝ }
 {

@@ -1,11 +1,20 @@
-// The table of the types' fields, fields 10 on, in the order of document 000's tables. It is proved to be that of the definitions, where
-// each field has its name.
+// The tables of the types' fields, fields 10 on, in the order of document 000's tables. They are proved to be those of the definitions,
+// where each field has its name.
 use format::PLACES;
 
-// The fields of a type, place by place: width, whether signed, the least and the greatest number, and the k of the power 2 ^ -k, which is 0
-// where there is none. All is 0 at a place that the type does not use. The column of the greatest numbers names the fields.
+// The widths of the fields, a line a type; 0 at a place that the type does not use.
+pub const WIDTHS: [[u8; PLACES]; 6] = [
+    [5, 11, 3, 6, 10, 8, 8, 2, 2, 5, 5, 32, 19, 15, 40, 13], // type 10
+    [40, 40, 40, 35, 13, 13, 3, 0, 0, 0, 0, 0, 0, 0, 0, 0], // type 11
+    [13, 35, 35, 15, 15, 15, 18, 30, 8, 0, 0, 0, 0, 0, 0, 0], // type 12
+    [2, 6, 6, 11, 5, 3, 14, 21, 21, 15, 15, 16, 19, 7, 23, 0], // type 20
+    [11, 16, 16, 9, 9, 7, 7, 25, 10, 8, 9, 13, 9, 9, 26, 0], // type 25
+    [0; PLACES], // every other type
+];
+
+// What else a type's fields are, place by place: whether signed, the least and the greatest number, and the k of the power 2 ^ -k, which is
+// 0 where there is none. All is 0 at a place that the type does not use. The column of the greatest numbers names the fields.
 pub struct Row {
-    pub widths: [u8; PLACES],
     pub signed: [bool; PLACES],
     pub least: [i64; PLACES],
     pub most: [i64; PLACES],
@@ -61,7 +70,6 @@ const S40: i64 = (1 << 39) - 1;
 
 // Type 10: N4, NT, M, frame size, tb; ages, modes, accuracy factors of ephemeris and clock; tau, gamma, beta; tau_c, its rate.
 pub const TYPE10: Row = Row {
-    widths: [5, 11, 3, 6, 10, 8, 8, 2, 2, 5, 5, 32, 19, 15, 40, 13],
     signed: [U, U, U, U, U, U, U, U, U, S, S, S, S, S, S, S],
     least: [
         1,
@@ -104,7 +112,6 @@ pub const TYPE10: Row = Row {
 
 // Type 11: x, y, z; the rate of x; the antenna's dx, dy; reserve.
 pub const TYPE11: Row = Row {
-    widths: [40, 40, 40, 35, 13, 13, 3, 0, 0, 0, 0, 0, 0, 0, 0, 0],
     signed: [S, S, S, S, S, S, U, U, U, U, U, U, U, U, U, U],
     least: [
         -S40,
@@ -147,7 +154,6 @@ pub const TYPE11: Row = Row {
 
 // Type 12: the antenna's dz; the rates of y and z; the accelerations; the shifts of L2 and of GPS; reserve.
 pub const TYPE12: Row = Row {
-    widths: [13, 35, 35, 15, 15, 15, 18, 30, 8, 0, 0, 0, 0, 0, 0, 0],
     signed: [S, S, S, S, S, S, S, S, U, U, U, U, U, U, U, U],
     least: [
         -S13,
@@ -190,7 +196,6 @@ pub const TYPE12: Row = Row {
 
 // Type 20: orbit, Ns, EA, NA, signals, M; tau, lambda, its time; di, eccentricity, omega, dT, its rate; reserve.
 pub const TYPE20: Row = Row {
-    widths: [2, 6, 6, 11, 5, 3, 14, 21, 21, 15, 15, 16, 19, 7, 23, 0],
     signed: [U, U, U, U, U, U, S, S, U, S, U, S, S, S, U, U],
     least: [
         0,
@@ -233,7 +238,6 @@ pub const TYPE20: Row = Row {
 
 // Type 25: NB; xp, yp, their rates, their accelerations; B0, B1, B2; c_A, c_F, c_Ap; UTC - TAI; reserve.
 pub const TYPE25: Row = Row {
-    widths: [11, 16, 16, 9, 9, 7, 7, 25, 10, 8, 9, 13, 9, 9, 26, 0],
     signed: [U, S, S, S, S, S, S, S, S, S, U, U, U, S, U, U],
     least: [
         1,
@@ -276,7 +280,6 @@ pub const TYPE25: Row = Row {
 
 // Every other type has no fields.
 pub const NO_FIELDS: Row = Row {
-    widths: [0; PLACES],
     signed: [U; PLACES],
     least: [0; PLACES],
     most: [0; PLACES],

@@ -1,7 +1,7 @@
 -- `fields::numbers_at`: what the loop has decoded when it has come to the place i of the record. Assumes nothing.
 use mathlib.Core.Path.{_≡_, refl, _∙_}
 use mathlib.Core.Bool.{Bool}
-use mathlib.Core.List.{List}
+use mathlib.Core.List.{List, map}
 use Prim.Native.Nat.{ℕ, _+_, _-_, _≤_, _<_}
 use native.Mathlib.Omega.{arith}
 use lib.IntN.{ℤ}
@@ -13,7 +13,7 @@ use borrow.Author.Needs.{needs}
 use Rattle.bits.proofs.Bytes.{length-unpack}
 use Rattle.bits.specs.Bits.{unpack}
 use Rattle.format.proofs.Information.{marks-cover}
-use Rattle.format.specs.Fields.{total}
+use Rattle.format.specs.Fields.{width as widthOf, total}
 use Rattle.format.specs.Types.{places, placesOf}
 use Rattle.types.specs.Rows.{Describes}
 use Rattle.fields.proofs.Decoding.{ReadSoFar, read-start, read-on, read-all, left-here}
@@ -34,10 +34,13 @@ module _ (c : tie.In-loop Inv-loop μ-loop) where
   at-loop = c .before
 
   abbrev at-row : tie.After-row-of Inv-loop μ-loop
-  at-row = at-loop .before .before .before
+  at-row = at-loop .before .before
+
+  abbrev at-widths : tie.After-widths-of Inv-loop μ-loop
+  at-widths = at-row .before
 
   abbrev start : tie.Start Inv-loop μ-loop
-  start = at-row .before .before
+  start = at-widths .before .before
 
   abbrev bits : List Bool
   bits = unpack (start .args .part .now)
@@ -55,7 +58,7 @@ module _ (c : tie.In-loop Inv-loop μ-loop) where
   at = at-loop .loop .at
 
   abbrev width : ℕ
-  width = getD (at-row .row-of .result .widths) i 0
+  width = getD (at-widths .widths-of .result) i 0
 
   -- what is read of the type's fields
   abbrev Read : List ℤ → ℕ → ℕ → ℕ → Type 0
@@ -63,6 +66,9 @@ module _ (c : tie.In-loop Inv-loop μ-loop) where
 
   so-far : Read (at-loop .loop .numbers) (at-loop .loop .minus) at i
   so-far = at-loop .loop .inv .1
+
+  widths-are : at-widths .widths-of .result ≡ map widthOf (placesOf (start .args .kind))
+  widths-are = at-widths .widths-of .ensures
 
   described : Describes (placesOf (start .args .kind)) (at-row .row-of .result)
   described = at-row .row-of .ensures
@@ -86,10 +92,14 @@ module _ (c : tie.After-mark-bit Inv-loop μ-loop) where
 
   read-more : Read at-place numbers minus (at at-place + width at-place) (i at-place + 1)
   read-more =
-      read-on (so-far at-place) (described at-place) (below at-place) (room at-place) (c .before .before .field .ensures)
+      read-on (so-far at-place) (widths-are at-place) (described at-place) (below at-place) (room at-place)
+      (c .before .before .field .ensures)
       (toZ-ofZ {w = w64} (record { sfits = c .before .number-of .ok }) ∙ c .before .number-of .ensures) (c .mark-bit .ensures)
 
 -- ---- what the code asks, in its order
+
+widths-of-requires : tie.Need-widths-of-requires Inv-loop μ-loop
+widths-of-requires c κs = search needs
 
 row-of-requires : tie.Need-row-of-requires Inv-loop μ-loop
 row-of-requires c κs = search needs
@@ -110,16 +120,17 @@ array-read-signed c = below c
 
 field-requires : tie.Need-field-requires Inv-loop μ-loop
 field-requires c κs =
-    let inside = inside-here (so-far c) (described c) (below c) in
-    (width-here (so-far c) (described c) (below c), omega (arith, inside, ends c, start c .pre .1))
+    let inside = inside-here (so-far c) (widths-are c) (described c) (below c) in
+    (width-here (so-far c) (widths-are c) (described c) (below c), omega (arith, inside, ends c, start c .pre .1))
 
 number-of-requires : tie.Need-number-of-requires Inv-loop μ-loop
 number-of-requires c κs =
     let p = c .before in
     let g = so-far p in
+    let w = widths-are p in
     let d = described p in
     let l = below p in
-    (signed-here g d l, width-here g d l, small-here g d l (room p) (c .field .ensures))
+    (signed-here g w d l, width-here g w d l, small-here g w d l (room p) (c .field .ensures))
 
 mul-numbers : tie.Need-mul-numbers Inv-loop μ-loop
 mul-numbers c = search needs
@@ -131,9 +142,10 @@ mark-bit-requires : tie.Need-mark-bit-requires Inv-loop μ-loop
 mark-bit-requires c κs =
     let p = c .before .before in
     let g = so-far p in
+    let w = widths-are p in
     let d = described p in
     let l = below p in
-    (signed-here g d l, width-here g d l, small-here g d l (room p) (c .before .field .ensures), omega (arith, l, marks-cover))
+    (signed-here g w d l, width-here g w d l, small-here g w d l (room p) (c .before .field .ensures), omega (arith, l, marks-cover))
 
 add-minus : tie.Need-add-minus Inv-loop μ-loop
 add-minus c = record { fits = mark-fits (read-more c) }
@@ -141,7 +153,7 @@ add-minus c = record { fits = mark-fits (read-more c) }
 add-at : tie.Need-add-at Inv-loop μ-loop
 add-at c =
     let p = at-place c in
-    let inside = inside-here (so-far p) (described p) (below p) in
+    let inside = inside-here (so-far p) (widths-are p) (described p) (below p) in
     record { fits = omega (arith, inside, ends p) }
 
 add-i : tie.Need-add-i Inv-loop μ-loop
@@ -165,6 +177,7 @@ numbers-at-spec =
     (tie.spec
     Inv-loop
     μ-loop
+    widths-of-requires
     row-of-requires
     loop-holds
     array-read-width

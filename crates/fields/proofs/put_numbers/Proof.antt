@@ -1,7 +1,7 @@
 -- `fields::put_numbers`: what the loop has written or holds when it has come to the place i of the record. Assumes nothing.
 use mathlib.Core.Path.{_≡_, _∙_}
 use mathlib.Core.Bool.{Bool}
-use mathlib.Core.List.{List}
+use mathlib.Core.List.{List, map}
 use Prim.Native.Nat.{ℕ, _+_, _-_, _^_, _≤_, _<_}
 use native.Mathlib.Omega.{arith}
 use lib.IntN.{ℤ, pos}
@@ -12,7 +12,7 @@ use mir.Val.{toZ, ofZ}
 use borrow.Author.Needs.{needs}
 use Rattle.bits.proofs.Bytes.{length-unpack}
 use Rattle.bits.specs.Bits.{unpack}
-use Rattle.format.specs.Fields.{total}
+use Rattle.format.specs.Fields.{width, total}
 use Rattle.format.specs.Types.{places, placesOf}
 use Rattle.types.specs.Rows.{Describes}
 use Rattle.fields.proofs.Coding.{WrittenSoFar, put-at-same, odd-seen, written-start, written-same, written-all, left-here}
@@ -33,10 +33,13 @@ abbrev μ-loop : tie.MeasureT-loop
 -- In the loop: what is written so far, or held.
 module _ (c : tie.At-loop Inv-loop μ-loop) where
   abbrev at-row : tie.After-row-of Inv-loop μ-loop
-  at-row = c .before .before .before
+  at-row = c .before .before
+
+  abbrev at-widths : tie.After-widths-of Inv-loop μ-loop
+  at-widths = at-row .before
 
   abbrev start : tie.Start Inv-loop μ-loop
-  start = at-row .before .before
+  start = at-widths .before .before
 
   abbrev numbers : List ℤ
   numbers = start .args .t5
@@ -59,6 +62,9 @@ module _ (c : tie.At-loop Inv-loop μ-loop) where
 
   so-far : Written (afterHeld (c .loop .held) (unpack (c .loop .part))) at (c .loop .marks) i
   so-far = c .loop .inv .5
+
+  widths-are : at-widths .widths-of .result ≡ map width (placesOf (start .args .kind))
+  widths-are = at-widths .widths-of .ensures
 
   described : Describes (placesOf (start .args .kind)) (at-row .row-of .result)
   described = at-row .row-of .ensures
@@ -83,6 +89,9 @@ module _ (c : tie.After-code-arg Inv-loop μ-loop) where
   number = toZ-ofZ {w = w64} (record { sfits = c .code-arg .given })
 
 -- ---- what the code asks, in its order
+
+widths-of-requires : tie.Need-widths-of-requires Inv-loop μ-loop
+widths-of-requires c κs = search needs
 
 row-of-requires : tie.Need-row-of-requires Inv-loop μ-loop
 row-of-requires c κs = search needs
@@ -120,15 +129,16 @@ array-copy-out-code c = below c
 code-requires : tie.Need-code-requires Inv-loop μ-loop
 code-requires c κs =
     let q = at-loop c in
-    code-asks (so-far q) (described q) (below-here c) (long q) (number c) (odd-seen (q .loop .marks))
+    code-asks (so-far q) (widths-are q) (described q) (below-here c) (long q) (number c) (odd-seen (q .loop .marks))
 
 hold-requires : tie.Need-hold-requires Inv-loop μ-loop
 hold-requires c κs =
     let k = c .before .before in
     let q = at-loop k in
-    let narrow = narrow-here (so-far q) (described q) (below-here k) in
-    let room = room-here (so-far q) (described q) (below-here k) in
-    let small = x-fits (so-far q) (described q) (below-here k) (long q) (number k) (odd-seen (q .loop .marks)) (c .before .code .ensures) in
+    let narrow = narrow-here (so-far q) (widths-are q) (described q) (below-here k) in
+    let room = room-here (so-far q) (widths-are q) (described q) (below-here k) in
+    let seen = odd-seen (q .loop .marks) in
+    let small = x-fits (so-far q) (widths-are q) (described q) (below-here k) (long q) (number k) seen (c .before .code .ensures) in
     let on = held-at q in (
       (q .loop .inv .2, q .loop .inv .3, narrow, small),
       (omega (arith, room, on, ends q, start q .pre .0 .1), omega (arith, room, on, ends q)),
@@ -138,7 +148,7 @@ add-at : tie.Need-add-at Inv-loop μ-loop
 add-at c =
     let k = c .before .before .before .before .before in
     let q = at-loop k in
-    record { fits = omega (arith, room-here (so-far q) (described q) (below-here k), ends q) }
+    record { fits = omega (arith, room-here (so-far q) (widths-are q) (described q) (below-here k), ends q) }
 
 add-i : tie.Need-add-i Inv-loop μ-loop
 add-i c = search needs
@@ -154,7 +164,7 @@ loop-again c =
     let e = f .hold .ensures in
     let code = f .before .before .code .ensures in
     let z = put-at-same _ _ (held-at q) (e .1) in
-    let on = written-on (so-far q) (described q) (below-here k) (long q) (number k) (odd-seen (q .loop .marks)) code z in
+    let on = written-on (so-far q) (widths-are q) (described q) (below-here k) (long q) (number k) (odd-seen (q .loop .marks)) code z in
     (omega (arith, below-here k), search needs, e .0 .1, e .0 .2, omega (arith, e .0 .0, held-at q), on)
 
 put-field-requires : tie.Need-put-field-requires Inv-loop μ-loop
@@ -179,6 +189,7 @@ put-numbers-spec =
     (tie.spec
     Inv-loop
     μ-loop
+    widths-of-requires
     row-of-requires
     loop-holds
     array-read-width

@@ -1,7 +1,7 @@
 -- `ranges::number_ranges`: the places from i on answer what all answer. Assumes nothing.
 use mathlib.Core.Path.{_≡_, refl, _∙_}
 use mathlib.Core.Bool.{true, false}
-use mathlib.Core.List.{List}
+use mathlib.Core.List.{List, map}
 use Prim.Native.Nat.{ℕ, _+_, _-_, _≤_, _<_}
 use native.Mathlib.Omega.{arith}
 use lib.IntN.{ℤ, pos}
@@ -13,10 +13,11 @@ use borrow.Author.Needs.{needs}
 use borrow.Author.Tests.{not-true, not-false}
 use Rattle.format.specs.declared.Answer.the-variants.{Refused}
 use Rattle.format.specs.declared.Refusal.the-variants.{OutOfRange}
-use Rattle.format.specs.Fields.{Field}
+use Rattle.format.specs.Fields.{Field, width}
 use Rattle.format.specs.Records.{ranges}
 use Rattle.format.specs.Types.{places, placesOf}
 use Rattle.types.specs.declared.rows.Row.{Row}
+use Rattle.types.specs.Rows.{Describes}
 use Rattle.ranges.proofs.Laws.{row-takes, row-refuses, ranges-end}
 use Rattle.ranges.proofs.number_ranges.Statement.{statement}
 use Rattle.ranges.proofs.number_ranges.Tie as tie
@@ -34,10 +35,13 @@ module _ (c : tie.After-takes Inv-loop μ-loop) where
   at-loop = c .before .before .before .before .before
 
   abbrev at-row : tie.After-row-of Inv-loop μ-loop
-  at-row = at-loop .before .before .before .before
+  at-row = at-loop .before .before .before
+
+  abbrev at-widths : tie.After-widths-of Inv-loop μ-loop
+  at-widths = at-row .before
 
   abbrev start : tie.Start Inv-loop μ-loop
-  start = at-row .before
+  start = at-widths .before
 
   abbrev row : Row
   row = at-row .row-of .result
@@ -57,6 +61,12 @@ module _ (c : tie.After-takes Inv-loop μ-loop) where
   long : length numbers ≡ places
   long = search needs
 
+  widths-are : at-widths .widths-of .result ≡ map width fields
+  widths-are = at-widths .widths-of .ensures
+
+  described : Describes fields row
+  described = at-row .row-of .ensures
+
   -- the three numbers, as the machine has them
   low : toZ w64 (ofZ w64 (getD (row .least) i (pos 0))) ≡ getD (row .least) i (pos 0)
   low = toZ-ofZ {w = w64} (record { sfits = c .before .before .before .takes-arg .given })
@@ -69,13 +79,16 @@ module _ (c : tie.After-takes Inv-loop μ-loop) where
 
   -- what the test leaves to the places past i
   refuses : c .takes .result ≡ false → Refused (OutOfRange (10 + i)) ≡ ranges fields numbers 10
-  refuses e = row-refuses _ i numbers (at-row .row-of .ensures) below long low high number (c .takes .ensures) e ∙ at-loop .loop .inv .1
+  refuses e = row-refuses _ i numbers widths-are described below long low high number (c .takes .ensures) e ∙ at-loop .loop .inv .1
 
   goes-on : c .takes .result ≡ true
       → ranges (drop (i + 1) fields) (drop (i + 1) numbers) (10 + (i + 1)) ≡ ranges fields numbers 10
-  goes-on e = row-takes _ i numbers (at-row .row-of .ensures) below long low high number (c .takes .ensures) e ∙ at-loop .loop .inv .1
+  goes-on e = row-takes _ i numbers widths-are described below long low high number (c .takes .ensures) e ∙ at-loop .loop .inv .1
 
 -- ---- what the code asks, in its order
+
+widths-of-requires : tie.Need-widths-of-requires Inv-loop μ-loop
+widths-of-requires c κs = search needs
 
 row-of-requires : tie.Need-row-of-requires Inv-loop μ-loop
 row-of-requires c κs = search needs
@@ -107,8 +120,8 @@ array-copy-out-takes-3 c = search needs
 takes-requires : tie.Need-takes-requires Inv-loop μ-loop
 takes-requires c κs = search needs
 
-add-t26 : tie.Need-add-t26 Inv-loop μ-loop
-add-t26 c = search needs
+add-t27 : tie.Need-add-t27 Inv-loop μ-loop
+add-t27 c = search needs
 
 returns : tie.Need-returns Inv-loop μ-loop
 returns c = refuses (c .before) (not-true _ (c .if1 .taken))
@@ -131,6 +144,7 @@ number-ranges-spec =
     (tie.spec
     Inv-loop
     μ-loop
+    widths-of-requires
     row-of-requires
     loop-holds
     array-read-takes
@@ -141,7 +155,7 @@ number-ranges-spec =
     mul-takes-3
     array-copy-out-takes-3
     takes-requires
-    add-t26
+    add-t27
     returns
     add-i
     loop-less

@@ -27,11 +27,11 @@ module _ (c : tie.After-misplaced Inv-loop μ-loop) where
   abbrev at-loop : tie.At-loop Inv-loop μ-loop
   at-loop = c .before .before .before
 
-  abbrev at-row : tie.After-row-of Inv-loop μ-loop
-  at-row = at-loop .before .before
+  abbrev at-widths : tie.After-widths-of Inv-loop μ-loop
+  at-widths = at-loop .before
 
   abbrev start : tie.Start Inv-loop μ-loop
-  start = at-row .before
+  start = at-widths .before
 
   abbrev fields : List Field
   fields = placesOf (start .args .kind)
@@ -53,15 +53,15 @@ module _ (c : tie.After-misplaced Inv-loop μ-loop) where
 
   -- what the test leaves to the places past i
   finds : c .misplaced .result ≡ true → true ≡ unused fields numbers
-  finds e = unused-found _ i numbers (at-row .row-of .ensures) below long number (c .misplaced .ensures) e ∙ at-loop .loop .inv .1
+  finds e = unused-found _ i numbers (at-widths .widths-of .ensures) below long number (c .misplaced .ensures) e ∙ at-loop .loop .inv .1
 
   goes-on : c .misplaced .result ≡ false → unused (drop (i + 1) fields) (drop (i + 1) numbers) ≡ unused fields numbers
-  goes-on e = unused-next _ i numbers (at-row .row-of .ensures) below long number (c .misplaced .ensures) e ∙ at-loop .loop .inv .1
+  goes-on e = unused-next _ i numbers (at-widths .widths-of .ensures) below long number (c .misplaced .ensures) e ∙ at-loop .loop .inv .1
 
 -- ---- what the code asks, in its order
 
-row-of-requires : tie.Need-row-of-requires Inv-loop μ-loop
-row-of-requires c κs = search needs
+widths-of-requires : tie.Need-widths-of-requires Inv-loop μ-loop
+widths-of-requires c κs = search needs
 
 loop-holds : tie.Need-loop-holds Inv-loop μ-loop
 loop-holds c = (search needs, refl)
@@ -99,7 +99,7 @@ unused-spec =
     (tie.spec
     Inv-loop
     μ-loop
-    row-of-requires
+    widths-of-requires
     loop-holds
     array-read-misplaced
     mul-misplaced
