@@ -1,10 +1,9 @@
 -- Laws of the test of ranges. Assumes nothing.
-use mathlib.Core.Path.{_≡_, refl, sym, ap, _∙_}
-use mathlib.Core.Bool.{Bool, true, false, cond, _&&_, and-eq-true-iff}
-use mathlib.Core.List.{List, [], _∷_, _++_, map}
+use mathlib.Core.Path.{_≡_, refl, ap, _∙_}
+use mathlib.Core.Bool.{Bool, true, false, cond, _&&_}
+use mathlib.Core.List.{List, _∷_, map}
 use Prim.Native.Nat.{ℕ, zero, suc, _+_, _-_, _^_, _<_, _≤_}
 use native.Mathlib.Omega.{arith}
-use native.Mathlib.Nat.{add-zero}
 use native.Mathlib.Numerals.{add-one}
 use lib.Dec.{eqb, leb}
 use lib.IntN.{ℤ, pos, negsuc}
@@ -12,15 +11,14 @@ use lib.ListN.{length, getD, drop, drop-of-length-le}
 use lib.Seq.{drop-cons}
 use mir.Syntax.{w64}
 use mir.Val.{SFits, ofZ}
-use borrow.Author.Tests.{not-true, ne-eqb}
+use borrow.Author.Tests.{ne-eqb}
 use Rattle.format.proofs.Information.{length-information}
 use Rattle.format.specs.declared.Answer.{Answer}
 use Rattle.format.specs.declared.Answer.the-variants.{Passed, Refused}
 use Rattle.format.specs.declared.Refusal.{Refusal}
 use Rattle.format.specs.declared.Refusal.the-variants.{OutOfRange}
 use Rattle.format.specs.Tests.{_then_}
-use Rattle.format.proofs.Order.{passed-then}
-use Rattle.format.specs.Fields.{Field, unsigned, signed, absent, width, least, most, inRange}
+use Rattle.format.specs.Fields.{Field, unsigned, absent, width, least, most, inRange}
 use Rattle.format.specs.Records.{ranges, isZero}
 use Rattle.format.specs.Types.{places, placesOf}
 use Rattle.types.specs.declared.rows.Row.{Row}

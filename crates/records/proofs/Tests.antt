@@ -11,7 +11,6 @@ use lib.Dec.{eqb}
 use lib.IntN.{ℤ, pos}
 use lib.ListN.{length, getD, drop, drop-of-length-le, List·getD-eq-default}
 use lib.Seq.{drop-cons}
-use borrow.Author.Tests.{not-true}
 use Rattle.bits.specs.Bits.{odd}
 use Rattle.format.proofs.FieldLaws.{stray-zeros, markBits-none}
 use Rattle.format.proofs.Information.{length-information}

@@ -1,8 +1,8 @@
 -- The fields of a type by their numbers, and the sizes of their counts. Assumes nothing.
 use mathlib.Core.Path.{_≡_, refl, sym, ap, _∙_}
 use mathlib.Core.Bool.{Bool, true, false≢true, _&&_, and-eq-true-iff}
-use mathlib.Core.List.{List, _∷_}
-use Prim.Native.Nat.{ℕ, zero, suc, _+_, _-_, _^_, _≤_, _<_}
+use mathlib.Core.List.{_∷_}
+use Prim.Native.Nat.{ℕ, _+_, _-_, _^_, _≤_, _<_}
 use native.Mathlib.Nat.{lt-of-lt-of-le, lt-of-le-of-lt, lt-of-not-le}
 use native.Mathlib.Decide.{decLe, decLt}
 use native.Mathlib.Omega.{arith}
@@ -14,14 +14,13 @@ use lib.Seq.{getD-drop}
 use lib.Signed.{leZ}
 use borrow.Author.Tests.{eqb-true, leb-true, ltb-true}
 use Rattle.format.proofs.FieldLaws.{range-most, range-size, ranges-at}
-use Rattle.format.proofs.Information.{every, every-at, every-place, length-information}
+use Rattle.format.proofs.Information.{every-at, every-place, length-information}
 use Rattle.format.proofs.Order.{then-pass}
 use Rattle.format.proofs.Writing.{ranged}
 use Rattle.format.specs.declared.Answer.the-variants.{Passed}
 use Rattle.format.specs.declared.Record.{Record}
-use Rattle.format.specs.declared.Refusal.the-variants.{OutOfRange}
 use Rattle.format.specs.Fields.{Field, unsigned, signed, absent, power, inRange}
-use Rattle.format.specs.Records.{numbersOf, ranges, fieldTests, recordTests}
+use Rattle.format.specs.Records.{numbersOf, fieldTests, recordTests}
 use Rattle.format.specs.Types.{service, places, placesOf, fieldsOf}
 use Rattle.format.specs.Values.{powerOf, countOf}
 

@@ -1,12 +1,11 @@
 -- `reading::read`: a refusal of the bit count or the place, or the string's reading. Assumes nothing.
-use mathlib.Core.Path.{_≡_, sym, _∙_}
+use mathlib.Core.Path.{sym, _∙_}
 use mathlib.Core.List.{List}
 use Prim.Native.Nat.{ℕ, _≤_, _<_}
 use native.Mathlib.Omega.{arith}
-use lib.ListN.{length, getD}
+use lib.ListN.{getD}
 use borrow.Author.Needs.{needs}
-use Rattle.format.specs.declared.Answer.the-variants.{Passed}
-use Rattle.format.specs.Tests.{placeTests, Passes}
+use Rattle.format.specs.Tests.{Passes}
 use Rattle.format.proofs.Tests.{place-passes}
 use Rattle.reading.proofs.Chain.{place-refuses, place-passes-on, promised}
 use Rattle.reading.proofs.read.Statement.{statement}

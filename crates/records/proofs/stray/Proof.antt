@@ -11,7 +11,7 @@ use mir.Facts.{toZ-ofZ}
 use mir.Syntax.{w64}
 use borrow.Author.Needs.{needs}
 use Rattle.bits.specs.Bits.{odd}
-use Rattle.format.specs.Fields.{Field, absent}
+use Rattle.format.specs.Fields.{absent}
 use Rattle.format.specs.Records.{mayBear, markBits, stray}
 use Rattle.format.specs.Types.{markWidth, placesOf}
 use Rattle.records.proofs.Tests.{bits-left, half-fits, may-at, may-past, stray-done, stray-next, stray-found}
