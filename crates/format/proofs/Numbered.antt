@@ -17,7 +17,7 @@ use Rattle.format.specs.declared.Refusal.the-variants.{OutOfRange, Minus
 use Rattle.format.specs.Answers.{refusalCode, answerCode, outcomeCode, valueCode}
 use Rattle.format.specs.Fields.{Field, absent, inRange}
 use Rattle.format.specs.Listing.{listLines, listAnswer}
-use Rattle.format.specs.Reading.{recordAt, reading, readLines}
+use Rattle.format.specs.Reading.{recordAt, reading, readReturned}
 use Rattle.format.specs.Records.{numbersOf, ranges, firstOutside, otherOrbit, fieldTests, fieldLines}
 use Rattle.format.specs.Records.{unused, overfilled, markBits, mayBear, stray, lowestStray, recordTests, recordLines}
 use Rattle.format.specs.Standing.{stringTests, stringLines}
@@ -25,9 +25,9 @@ use Rattle.format.specs.Strings.{lengthOf}
 use Rattle.format.specs.Tests.{isPassed, refuses, when, _then_, giving, Line, on, returned}
 use Rattle.format.specs.Tests.{countTests, countLines, placeTests, placeLines}
 use Rattle.format.specs.Types.{markWidth, placesOf, fieldsOf, day}
-use Rattle.format.specs.Values.{powerOf, scaling, scaleLines, valueAnswer}
-use Rattle.format.specs.Values.{accuracy, accuracyLines, centimetresOf, AccuracyPromise, dayCount, dayLines, daysOf, DayPromise}
-use Rattle.format.specs.Writing.{writeTests, writeLines, writing}
+use Rattle.format.specs.Values.{powerOf, scaling, scaleReturned, valueAnswer}
+use Rattle.format.specs.Values.{accuracy, centimetresOf, accuracyReturned, AccuracyPromise, dayCount, daysOf, daysReturned, DayPromise}
+use Rattle.format.specs.Writing.{writeTests, writing, writeReturned}
 
 -- ---- what lines return
 
@@ -165,14 +165,14 @@ unfolding listAnswer
 list-numbered bytes count room found = giving-returned (tells-then (count-tells bytes count) (tells-when _ _)) found
 
 pub read-numbered : (bytes : List ℕ) (count place : ℕ)
-    → answerCode (reading bytes count place .answer) ≡ returned (readLines bytes count place) 0
+    → answerCode (reading bytes count place .answer) ≡ readReturned bytes count place
 unfolding reading
 read-numbered bytes count place =
     let u = recorded bytes count in
     tells-then (place-tells (length bytes) count place) (tells-then (string-tells u place) (field-tells (recordAt u place))) .code
 
 pub write-numbered : (bytes count place : ℕ) (r : Record)
-    → outcomeCode (writing bytes count place r) ≡ returned (writeLines bytes count place r) (place + lengthOf (r .kind))
+    → outcomeCode (writing bytes count place r) ≡ writeReturned bytes count place r
 unfolding writing writeTests
 write-numbered bytes count place r =
     giving-returned (tells-then (place-tells bytes count place) (tells-then (record-tells r) (tells-when _ _))) (place + lengthOf (r .kind))
@@ -183,18 +183,18 @@ value-told Passed x = (refl, refl)
 value-told (Refused r) x = (refl, refl)
 
 pub scale-numbered : (r : Record) (n : ℕ)
-    → (valueCode (scaling r n) .0 ≡ returned (scaleLines r n) 0 .0) × (valueCode (scaling r n) .1 ≡ returned (scaleLines r n) 0 .1)
+    → (valueCode (scaling r n) .0 ≡ scaleReturned r n .0) × (valueCode (scaling r n) .1 ≡ scaleReturned r n .1)
 unfolding scaling
 scale-numbered r n =
     let t = tells-then (record-tells r) (tells-when (eqb (powerOf (r .kind) n) 0) (OutOfRange n)) .code in
     let v = value-told (recordTests r then when (eqb (powerOf (r .kind) n) 0) (OutOfRange n)) _ in
     (v .0 ∙ ap (λ (c : ℕ × ℕ). c .0) t, v .1 ∙ ap (λ (c : ℕ × ℕ). c .1) t)
 
-pub accuracy-numbered : (f : ℤ) → outcomeCode (accuracy f) ≡ returned (accuracyLines f) (centimetresOf f)
+pub accuracy-numbered : (f : ℤ) → outcomeCode (accuracy f) ≡ accuracyReturned f
 unfolding accuracy ranges
 accuracy-numbered f = giving-returned (range-tells _ [] f [] 19 tells-passed) (centimetresOf f)
 
-pub days-numbered : (n4 nt : ℤ) → outcomeCode (dayCount n4 nt) ≡ returned (dayLines n4 nt) (daysOf n4 nt)
+pub days-numbered : (n4 nt : ℤ) → outcomeCode (dayCount n4 nt) ≡ daysReturned n4 nt
 unfolding dayCount ranges
 days-numbered n4 nt = giving-returned (range-tells _ (day ∷ []) n4 (nt ∷ []) 10 (range-tells _ [] nt [] 11 tells-passed)) (daysOf n4 nt)
 

@@ -3,7 +3,7 @@ use mathlib.Core.Path.{_≡_}
 use mathlib.Core.Bool.{Bool}
 use mathlib.Core.List.{List}
 use mathlib.Core.Logic.{_↔_}
-use Prim.Native.Nat.{ℕ, _+_, _*_, _≤_, _<_}
+use Prim.Native.Nat.{ℕ, _*_, _≤_, _<_}
 use lib.IntN.{ℤ}
 use lib.ListN.{length, getD}
 use Rattle.bits.specs.Bits.{recorded, coveredBytes}
@@ -15,12 +15,12 @@ use Rattle.format.specs.declared.Record.{Record}
 use Rattle.format.specs.Answers.{answerCode, outcomeCode, valueCode}
 use Rattle.format.specs.Demand3.{Clean, InStep, ListPromise}
 use Rattle.format.specs.Listing.{Lists, starts, listAnswer, listLines, listAfter, listing}
-use Rattle.format.specs.Reading.{reading, readLines}
+use Rattle.format.specs.Reading.{reading, readReturned}
 use Rattle.format.specs.Standing.{stringTests, standing}
 use Rattle.format.specs.Strings.{stringBits, typeAt, lengthOf, checkBits, Stands}
 use Rattle.format.specs.Tests.{returned}
-use Rattle.format.specs.Values.{scaling, scaleLines, accuracy, accuracyLines, centimetresOf, dayCount, dayLines, daysOf}
-use Rattle.format.specs.Writing.{writing, writeLines, bytesAfter, ReadsBack, WritesBack}
+use Rattle.format.specs.Values.{scaling, scaleReturned, accuracy, accuracyReturned, dayCount, daysReturned}
+use Rattle.format.specs.Writing.{writing, writeReturned, bytesAfter, ReadsBack, WritesBack}
 use Rattle.format.proofs.Agree
 use Rattle.format.proofs.Covered
 use Rattle.format.proofs.Damage
@@ -101,19 +101,19 @@ pub list-numbered : (bytes count room found : ℕ)
 list-numbered = Numbered.list-numbered
 
 pub read-numbered : (bytes : List ℕ) (count place : ℕ)
-    → answerCode (reading bytes count place .answer) ≡ returned (readLines bytes count place) 0
+    → answerCode (reading bytes count place .answer) ≡ readReturned bytes count place
 read-numbered = Numbered.read-numbered
 
 pub write-numbered : (bytes count place : ℕ) (r : Record)
-    → outcomeCode (writing bytes count place r) ≡ returned (writeLines bytes count place r) (place + lengthOf (r .kind))
+    → outcomeCode (writing bytes count place r) ≡ writeReturned bytes count place r
 write-numbered = Numbered.write-numbered
 
 pub scale-numbered : (r : Record) (n : ℕ)
-    → (valueCode (scaling r n) .0 ≡ returned (scaleLines r n) 0 .0) × (valueCode (scaling r n) .1 ≡ returned (scaleLines r n) 0 .1)
+    → (valueCode (scaling r n) .0 ≡ scaleReturned r n .0) × (valueCode (scaling r n) .1 ≡ scaleReturned r n .1)
 scale-numbered = Numbered.scale-numbered
 
-pub accuracy-numbered : (f : ℤ) → outcomeCode (accuracy f) ≡ returned (accuracyLines f) (centimetresOf f)
+pub accuracy-numbered : (f : ℤ) → outcomeCode (accuracy f) ≡ accuracyReturned f
 accuracy-numbered = Numbered.accuracy-numbered
 
-pub days-numbered : (n4 nt : ℤ) → outcomeCode (dayCount n4 nt) ≡ returned (dayLines n4 nt) (daysOf n4 nt)
+pub days-numbered : (n4 nt : ℤ) → outcomeCode (dayCount n4 nt) ≡ daysReturned n4 nt
 days-numbered = Numbered.days-numbered

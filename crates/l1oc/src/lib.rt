@@ -6,11 +6,11 @@ ghost use mathlib.Core.Path.{_≡_};
 ghost use lib.ListN.{length};
 ghost use Rattle.format.specs.Answers.{outcomeCode, valueCode};
 ghost use Rattle.format.specs.Demand3.{ListPromise};
-ghost use Rattle.format.specs.Listing.{listing};
-ghost use Rattle.format.specs.Reading.{reading};
-ghost use Rattle.format.specs.Values.{powerOf, countOf, IsScaled, scaling, ScalePromise};
-ghost use Rattle.format.specs.Values.{accuracy, AccuracyPromise, dayCount, DayPromise};
-ghost use Rattle.format.specs.Writing.{writing, ReadsBack, WritesBack, ReadPromise, WritePromise};
+ghost use Rattle.format.specs.Listing.{listing, listReturned};
+ghost use Rattle.format.specs.Reading.{reading, readReturned};
+ghost use Rattle.format.specs.Values.{powerOf, countOf, IsScaled, scaling, scaleReturned, ScalePromise};
+ghost use Rattle.format.specs.Values.{accuracy, accuracyReturned, dayCount, daysReturned};
+ghost use Rattle.format.specs.Writing.{writing, writeReturned, ReadsBack, WritesBack, ReadPromise, WritePromise};
 ghost use Rattle.l1oc.specs.Codes.{coded, readCoded, valueCoded};
 
 // What reading answers: 0 and 0 beside the record, or a refusal beside a blank one.
@@ -54,6 +54,7 @@ fn value_code(answer: Value) -> ValueCode
 #[no_mangle]
 pub extern "C" fn l1oc_list(bytes: &[u8], count: usize, list: &mut [u32]) -> Code
     ensures { λ r. ⌜ r ≡ coded (outcomeCode (listing (now (bytes .entry)) count (length (now (list .entry))))) ⌝ }
+    ensures { λ r. ⌜ r ≡ coded (listReturned (now (bytes .entry)) count (length (now (list .entry)))) ⌝ }
     ensures { λ _. ⌜ ListPromise (now (bytes .entry)) count (now (list .entry))
         (listing (now (bytes .entry)) count (length (now (list .entry)))) (now (list .exit)) ⌝ }
 {
@@ -65,6 +66,8 @@ pub extern "C" fn l1oc_list(bytes: &[u8], count: usize, list: &mut [u32]) -> Cod
 #[no_mangle]
 pub extern "C" fn l1oc_read(bytes: &[u8], count: usize, place: usize) -> ReadCode
     ensures { λ r. ⌜ r ≡ readCoded (reading (now (bytes .entry)) count place) ⌝ }
+    ensures { λ r. ⌜ (r .number ≡ readReturned (now (bytes .entry)) count place .0)
+        × (r .value ≡ readReturned (now (bytes .entry)) count place .1) ⌝ }
     ensures { λ _. ⌜ ReadPromise (now (bytes .entry)) count place (reading (now (bytes .entry)) count place) ⌝ }
     ensures { λ r. ⌜ (r .number ≡ 0 → WritesBack (now (bytes .entry)) count place (r .content)) ⌝ }
 {
@@ -83,6 +86,7 @@ pub extern "C" fn l1oc_read(bytes: &[u8], count: usize, place: usize) -> ReadCod
 #[no_mangle]
 pub extern "C" fn l1oc_write(bytes: &mut [u8], count: usize, place: usize, content: Record) -> Code
     ensures { λ r. ⌜ r ≡ coded (outcomeCode (writing (length (now (bytes .entry))) count place content)) ⌝ }
+    ensures { λ r. ⌜ r ≡ coded (writeReturned (length (now (bytes .entry))) count place content) ⌝ }
     ensures { λ _. ⌜ WritePromise (now (bytes .entry)) count place content (writing (length (now (bytes .entry))) count place content)
         (now (bytes .exit)) ⌝ }
     ensures { λ r. ⌜ (r .number ≡ 0 → ReadsBack (now (bytes .exit)) count place content) ⌝ }
@@ -95,6 +99,7 @@ pub extern "C" fn l1oc_write(bytes: &mut [u8], count: usize, place: usize, conte
 #[no_mangle]
 pub extern "C" fn l1oc_scaled(content: Record, field: usize) -> ValueCode
     ensures { λ r. ⌜ r ≡ valueCoded (valueCode (scaling content field)) ⌝ }
+    ensures { λ r. ⌜ (r .number ≡ scaleReturned content field .0) × (r .value ≡ scaleReturned content field .1) ⌝ }
     ensures { λ _. ⌜ ScalePromise content field (scaling content field) ⌝ }
     ensures { λ r. ⌜ (r .number ≡ 0 → IsScaled (countOf content field) (powerOf (content .kind) field) (r .scaled)) ⌝ }
 {
@@ -105,7 +110,8 @@ pub extern "C" fn l1oc_scaled(content: Record, field: usize) -> ValueCode
 // The centimetres of an accuracy factor.
 #[no_mangle]
 pub extern "C" fn l1oc_accuracy(factor: i64) -> Code
-    ensures { λ r. ⌜ (r ≡ coded (outcomeCode (accuracy factor))) × AccuracyPromise factor (accuracy factor) ⌝ }
+    ensures { λ r. ⌜ r ≡ coded (outcomeCode (accuracy factor)) ⌝ }
+    ensures { λ r. ⌜ r ≡ coded (accuracyReturned factor) ⌝ }
 {
     let answer = values::accuracy(factor);
     answers::outcome_code(answer)
@@ -114,7 +120,8 @@ pub extern "C" fn l1oc_accuracy(factor: i64) -> Code
 // The days from 1 January 1996 to day `nt` of the four-year interval `n4`.
 #[no_mangle]
 pub extern "C" fn l1oc_day_count(n4: i64, nt: i64) -> Code
-    ensures { λ r. ⌜ (r ≡ coded (outcomeCode (dayCount n4 nt))) × DayPromise n4 nt (dayCount n4 nt) ⌝ }
+    ensures { λ r. ⌜ r ≡ coded (outcomeCode (dayCount n4 nt)) ⌝ }
+    ensures { λ r. ⌜ r ≡ coded (daysReturned n4 nt) ⌝ }
 {
     let answer = values::day_count(n4, nt);
     answers::outcome_code(answer)

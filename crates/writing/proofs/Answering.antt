@@ -18,8 +18,8 @@ use Rattle.format.specs.declared.Refusal.the-variants.{RunsOut}
 use Rattle.format.specs.Answers.{outcomeCode}
 use Rattle.format.specs.Records.{recordTests}
 use Rattle.format.specs.Strings.{lengthOf}
-use Rattle.format.specs.Tests.{when, _then_, giving, returned, above, placeTests}
-use Rattle.format.specs.Writing.{string, writeTests, writeLines, writing, bytesAfter, ReadsBack, WritePromise}
+use Rattle.format.specs.Tests.{when, _then_, giving, above, placeTests}
+use Rattle.format.specs.Writing.{string, writeTests, writing, writeReturned, bytesAfter, ReadsBack, WritePromise}
 use Rattle.format.proofs.Order.{passed-then, refused-then, then-pass, when-pass}
 use Rattle.format.proofs.Theorems.{written-back, write-numbered}
 use Rattle.format.proofs.Writing.{Typed, length-string}
@@ -64,7 +64,7 @@ later-says count place r e =
 
 -- the answer by number and value
 numbered : (bytes : List ℕ) (count place : ℕ) (r : Record) {a : Outcome} → a ≡ writing (length bytes) count place r
-    → outcomeCode a ≡ returned (writeLines (length bytes) count place r) (place + lengthOf (r .kind))
+    → outcomeCode a ≡ writeReturned (length bytes) count place r
 numbered bytes count place r e = ap outcomeCode e ∙ write-numbered (length bytes) count place r
 
 -- where it is refused
