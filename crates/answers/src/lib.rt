@@ -35,7 +35,7 @@ pub fn refusal_code(refusal: Refusal) -> Code
 }
 
 // A number and a value.
-pub fn coded(number: u64, value: usize) -> Code
+fn coded(number: u64, value: usize) -> Code
     ensures { λ r. ⌜ (r .number ≡ number) × (r .value ≡ value) ⌝ }
 {
     Code {

@@ -13,7 +13,7 @@ pub enum Input {
 
 // Says on standard error what is wrong.
 fn complain(text: &[u8]) {
-    io::write_all(2, text);
+    io::write_all(libc::STDERR_FILENO, text);
 }
 
 // Reads from standard input once. Where nothing is there yet, as on a pipe that does not wait, or a signal came between, it reads again.

@@ -17,7 +17,6 @@ use Rattle.format.specs.declared.Answer.{Answer}
 use Rattle.format.specs.declared.Answer.the-variants.{Passed, Refused}
 use Rattle.format.specs.declared.Refusal.{Refusal}
 use Rattle.format.specs.declared.Refusal.the-variants.{OutOfRange}
-use Rattle.format.specs.Tests.{_then_}
 use Rattle.format.specs.Fields.{Field, unsigned, absent, width, least, most, inRange}
 use Rattle.format.specs.Records.{ranges, isZero}
 use Rattle.format.specs.Types.{places, placesOf}

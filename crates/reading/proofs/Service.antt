@@ -10,7 +10,7 @@ use lib.Seq.{take-take}
 use Rattle.bits.specs.Bits.{number, cut, put, pack}
 use Rattle.bits.proofs.Numbers.{number-piece}
 use Rattle.format.specs.declared.Record.{Record}
-use Rattle.format.specs.Fields.{total, values, minusZeros}
+use Rattle.format.specs.Fields.{values, minusZeros}
 use Rattle.format.specs.Reading.{informationBits, recordAt}
 use Rattle.format.specs.Records.{rawBytes, markOf}
 use Rattle.format.specs.Strings.{stringBits, typeAt, lengthOf, checkBits}
@@ -21,12 +21,6 @@ use Rattle.format.proofs.Information.{string-filled, values-take, minusZeros-ta
 module _ (u : List Bool) (o : ℕ) (h : o + lengthOf (typeAt u o) ≤ length u) where
   pub service-room : o + 50 ≤ length u
   service-room = omega (arith, length-unit (typeAt u o))
-
-  pub fields-room : o + 50 + total (placesOf (typeAt u o)) ≤ length u
-  fields-room = omega (arith, string-filled (typeAt u o))
-
-  pub raw-room : o + 50 + rawCount (typeAt u o) ≤ length u
-  raw-room = omega (arith, string-filled (typeAt u o))
 
   -- the information bits are those from bit 51 on
   front : informationBits u o ≡ take (lengthOf (typeAt u o) - checkBits (typeAt u o) - 50) (drop (o + 50) u)
