@@ -18,8 +18,8 @@ enum {
 #define MOST_COUNTS 549755813887.0
 
 /*
- * The count nearest to so many km, halves away from zero. The product is exact, since it is by a power of two, and so is what is left
- * of it after the whole counts: only the rounding itself changes the value. Stops where the field can't hold it.
+ * The count nearest to so many km, halves away from zero. Of the double that the text names, the product is exact, since it is by a power
+ * of two, and so is what is left of it after the whole counts: only the rounding itself changes it. Stops where the field can't hold it.
  */
 static int64_t counts(const char *field, const char *text)
 {

@@ -87,7 +87,7 @@ struct l1oc_answer {
  *   type 12:
  *   10       antenna dz                                        2^-10 m            +-(2^12 - 1)   +-4 m
  *   11 12    rates of y z                                      2^-30 km/s         +-(2^34 - 1)   +-16 km/s
- *   13 14 15 accelerations of x y z                            2^-39 km/s^2       +-(2^14 - 1)   +-2.9e-8 km/s^2
+ *   13 14 15 accelerations of x y z                            2^-39 km/s^2       +-(2^14 - 1)   +-3.0e-8 km/s^2
  *   16       L2 shift: time of L2OCp less that of L1OCd        2^-38 s            +-(2^17 - 1)   +-4.8e-7 s
  *   17       GPS shift: GPS less GLONASS time, part of 1 s     2^-38 s            +-(2^29 - 1)   +-2e-3 s
  *   18       reserve                                           1                  0 to 255
@@ -106,7 +106,7 @@ struct l1oc_answer {
  *   20       eccentricity                                      2^-20              0 to 2^15 - 1  0 to 0.031 (*)
  *   21       omega, argument of the perigee                    2^-15 half-cycles  +-(2^15 - 1)   +-1 half-cycle
  *   22       dT, draconic period less 40544 s                  2^-9 s             +-(2^18 - 1)   +-512 s
- *   23       rate of dT                                        2^-14 s/orbit      +-63           +-3.9e-3 s/orbit
+ *   23       rate of dT                                        2^-14 s/orbit      +-63           +-3.8e-3 s/orbit
  *   24       reserve                                           1                  0 to 2^23 - 1
  *
  *   type 25: the rotation of the Earth, the ionosphere, UTC and TAI
