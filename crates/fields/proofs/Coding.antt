@@ -20,7 +20,8 @@ use Rattle.format.specs.Tests.{when}
 use Rattle.format.specs.Fields.{Field, widest, unsigned, signed, absent, width, isSigned, total, code, codes}
 use Rattle.format.specs.Records.{markBits, unused, overfilled, stray, fieldTests, recordTests}
 use Rattle.format.specs.Types.{places, markWidth, placesOf}
-use Rattle.format.proofs.Information.{every, every-head, every-at, every-drop, marks-cover, length-information, widths, fields-left}
+use Rattle.format.proofs.Information.{every, every-head, every-at, every-drop, marks-cover, length-information, widths}
+use Rattle.format.proofs.Information.{fields-left, places-from}
 use Rattle.format.proofs.Order.{then-pass, when-pass}
 use Rattle.format.proofs.Writing.{ranged}
 use Rattle.format.proofs.FieldLaws.{or-left, sound, Passes, information-sound, length-code, value-code, Fits, fits, length-markBits}
@@ -161,9 +162,7 @@ module _ {from kind minus : ℕ} {numbers : List ℤ} {u₀ u : List Bool} {at m
     sign-is = sign-at d i
 
     fields-here : drop i (placesOf kind) ≡ f ∷ drop (i + 1) (placesOf kind)
-    fields-here =
-        drop-cons (placesOf kind) i absent (omega (arith, length-information kind))
-        ∙ ap (λ (k : ℕ). f ∷ drop k (placesOf kind)) (sym (add-one i))
+    fields-here = places-from kind i l
 
     -- it is narrow, and lies in the bits
     pub narrow-here : getD ws i 0 ≤ widest

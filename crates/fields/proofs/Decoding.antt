@@ -20,7 +20,7 @@ use Rattle.format.specs.Fields.{Field, widest, unsigned, signed, absent, width,
 use Rattle.format.specs.Records.{markOf}
 use Rattle.format.specs.Types.{places, markWidth, placesOf}
 use Rattle.format.proofs.Information.{every, every-head, every-drop, marks-cover, length-information, fields-left, widths, length-values}
-use Rattle.format.proofs.Information.{length-minusZeros, markOf-lt}
+use Rattle.format.proofs.Information.{length-minusZeros, markOf-lt, places-from}
 use Rattle.types.proofs.Table.{wide, all-wide, width-tells, width-at, sign-at}
 use Rattle.types.specs.declared.rows.Row.{Row}
 use Rattle.types.specs.Rows.{Describes}
@@ -133,9 +133,7 @@ module _ {u : List Bool} {from kind : ℕ} {numbers : List ℤ} {minus at i : �
     sign-is = sign-at d i
 
     next : drop i (placesOf kind) ≡ f ∷ drop (i + 1) (placesOf kind)
-    next =
-        drop-cons (placesOf kind) i absent (omega (arith, length-information kind))
-        ∙ ap (λ (k : ℕ). f ∷ drop k (placesOf kind)) (sym (add-one i))
+    next = places-from kind i l
 
     -- it is narrow, and lies in the bits
     pub width-here : getD ws i 0 ≤ widest
