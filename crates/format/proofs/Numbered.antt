@@ -25,8 +25,8 @@ use Rattle.format.specs.Strings.{lengthOf}
 use Rattle.format.specs.Tests.{isPassed, refuses, when, _then_, giving, Line, on, returned}
 use Rattle.format.specs.Tests.{countTests, countLines, placeTests, placeLines}
 use Rattle.format.specs.Types.{markWidth, placesOf, fieldsOf, day}
-use Rattle.format.specs.Values.{powerOf, scaling, scaleReturned, valueAnswer}
-use Rattle.format.specs.Values.{accuracy, centimetresOf, accuracyReturned, AccuracyPromise, dayCount, daysOf, daysReturned, DayPromise}
+use Rattle.format.specs.Values.{powerOf, scaling, scaleReturned, valueAnswer, accuracy, centimetresOf, accuracyReturned}
+use Rattle.format.specs.Values.{AccuracyPromise, dayCount, daysOf, daysReturned, DayPromise}
 use Rattle.format.specs.Writing.{writeTests, writing, writeReturned}
 
 -- ---- what lines return

@@ -30,6 +30,6 @@ unfolding tb959
 around-alike = reading-covered (around 0) (around 255) 258 8 refl around-covered
 
 pub around-reads : reading (around 0) 258 8 .answer ≡ Passed
-unfolding tb959 reading recorded cut stringBits typeAt lengthOf generatorOf remainder checkPasses stringTests countTests placeTests when _then_
-    fieldTests ranges inRange recordAt informationBits values minusZeros placesOf
+unfolding tb959 reading recorded cut stringBits typeAt lengthOf generatorOf remainder checkPasses stringTests countTests placeTests
+    when _then_ fieldTests ranges inRange recordAt informationBits values minusZeros placesOf
 around-reads = refl
