@@ -15,7 +15,7 @@ use Rattle.format.specs.declared.Answer.the-variants.{Passed, Refused}
 use Rattle.format.specs.declared.Record.{Record}
 use Rattle.format.specs.declared.Refusal.{Refusal}
 use Rattle.format.specs.declared.Refusal.the-variants.{NoMark, RunsOut, CheckFails}
-use Rattle.format.specs.Reading.{informationBits, recordAt, beside, reading}
+use Rattle.format.specs.Reading.{informationBits, recordAt, beside, reading, SameThere}
 use Rattle.format.specs.Records.{fieldTests}
 use Rattle.format.specs.Standing.{begins, checkPasses, stringTests, standing}
 use Rattle.format.specs.Strings.{mark, stringBits, typeAt, lengthOf, generatorOf, checkBits}
@@ -106,8 +106,7 @@ length-same Passed i j h = h refl
 length-same (Refused r) i j h = refl
 
 -- ---- two recordings of one length that agree on the bytes that the string at a place of the first covers
-module _ (s t : List ℕ) (n p : ℕ) (lengths : length t ≡ length s)
-    (agree : coveredBytes p (lengthOf (typeAt (recorded s n) p)) t ≡ coveredBytes p (lengthOf (typeAt (recorded s n) p)) s) where
+module _ (s t : List ℕ) (n p : ℕ) (lengths : length t ≡ length s) (agree : SameThere t s n p) where
   abbrev u : List Bool
   u = recorded s n
 

@@ -6,7 +6,7 @@ use mathlib.Core.Logic.{_↔_}
 use Prim.Native.Nat.{ℕ, _*_, _≤_, _<_}
 use lib.IntN.{ℤ}
 use lib.ListN.{length, getD}
-use Rattle.bits.specs.Bits.{recorded, coveredBytes}
+use Rattle.bits.specs.Bits.{recorded}
 use Rattle.cyclic.specs.Burst.{Burst}
 use Rattle.format.specs.declared.Answer.the-variants.{Passed}
 use Rattle.format.specs.declared.Outcome.{Outcome}
@@ -15,7 +15,7 @@ use Rattle.format.specs.declared.Record.{Record}
 use Rattle.format.specs.Answers.{answerCode, outcomeCode, valueCode}
 use Rattle.format.specs.Demand3.{Clean, InStep, ListPromise}
 use Rattle.format.specs.Listing.{Lists, starts, listAnswer, listLines, listAfter, listing}
-use Rattle.format.specs.Reading.{reading, readReturned}
+use Rattle.format.specs.Reading.{reading, readReturned, SameThere}
 use Rattle.format.specs.Standing.{stringTests, standing}
 use Rattle.format.specs.Strings.{stringBits, typeAt, lengthOf, checkBits, Stands}
 use Rattle.format.specs.Tests.{returned}
@@ -82,15 +82,11 @@ read-back = RoundTrips.read-back
 
 -- Two recordings of one length, with the same bit count, that agree on the bytes that the string at a place covers: what stands there is
 -- the same, and they read alike there.
-pub standing-covered : (bytes others : List ℕ) (count place : ℕ) → length others ≡ length bytes
-    → coveredBytes place (lengthOf (typeAt (recorded bytes count) place)) others
-    ≡ coveredBytes place (lengthOf (typeAt (recorded bytes count) place)) bytes
+pub standing-covered : (bytes others : List ℕ) (count place : ℕ) → length others ≡ length bytes → SameThere others bytes count place
     → count ≤ 8 * length bytes → standing (recorded others count) place ≡ standing (recorded bytes count) place
 standing-covered = Covered.standing-covered
 
-pub reading-covered : (bytes others : List ℕ) (count place : ℕ) → length others ≡ length bytes
-    → coveredBytes place (lengthOf (typeAt (recorded bytes count) place)) others
-    ≡ coveredBytes place (lengthOf (typeAt (recorded bytes count) place)) bytes
+pub reading-covered : (bytes others : List ℕ) (count place : ℕ) → length others ≡ length bytes → SameThere others bytes count place
     → reading others count place ≡ reading bytes count place
 reading-covered = Covered.reading-covered
 
