@@ -56,3 +56,6 @@ place-passes bytes count place e =
 -- both pass where nothing applies
 pub passes-count : {bytes : List ℕ} {count : ℕ} → Passes bytes count → countTests (length bytes) count ≡ Passed
 passes-count {bytes} {count} p = sym (count-fits (length bytes) count (p .short-enough) (omega (arith, p .in-bytes)))
+
+pub passes-place : {bytes : List ℕ} {count place : ℕ} → Passes bytes count → place ≤ count → placeTests (length bytes) count place ≡ Passed
+passes-place {bytes} {count} {place} p h = sym (place-within (length bytes) count place (sym (passes-count p)) h)

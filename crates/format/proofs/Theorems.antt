@@ -20,7 +20,7 @@ use Rattle.format.specs.Standing.{stringTests, standing}
 use Rattle.format.specs.Strings.{stringBits, typeAt, lengthOf, checkBits, Stands}
 use Rattle.format.specs.Tests.{returned}
 use Rattle.format.specs.Values.{scaling, scaleReturned, accuracy, accuracyReturned, dayCount, daysReturned}
-use Rattle.format.specs.Writing.{writing, writeReturned, bytesAfter, ReadsBack, WritesBack}
+use Rattle.format.specs.Writing.{string, writing, writeReturned, bytesAfter, ReadsBack, WritesBack}
 use Rattle.format.proofs.Agree
 use Rattle.format.proofs.Covered
 use Rattle.format.proofs.Damage
@@ -70,7 +70,7 @@ list-promise = Promise.promised
 
 -- A record that writes reads back the same, and stands where it was written.
 pub written-back : (bytes : List ℕ) (count place next : ℕ) (r : Record) → Typed r → writing (length bytes) count place r ≡ Given next
-    → ReadsBack (bytesAfter (Given next) place r bytes) count place r
+    → ReadsBack (bytesAfter (Given next) place (string r) bytes) count place r
 written-back = RoundTrips.written-back
 
 -- A string that reads writes back to the same bits and bytes.

@@ -12,7 +12,7 @@ use Rattle.format.specs.Fields.{inRange}
 use Rattle.format.specs.Records.{markOf, markBits, ranges, fieldTests, unused, overfilled, stray, recordTests, rawBytes}
 use Rattle.format.specs.Strings.{lengthOf, generatorOf}
 use Rattle.format.specs.Types.{placesOf, rawCount}
-use Rattle.format.specs.Writing.{writing, writeTests, bytesAfter, ReadsBack}
+use Rattle.format.specs.Writing.{string, writing, writeTests, bytesAfter, ReadsBack}
 use Rattle.format.proofs.Writing.{Typed}
 use Rattle.format.proofs.RoundTrips.{written-back}
 use Rattle.witnesses.specs.Writable.{kinds, lowest, highest, minusZero}
@@ -37,7 +37,7 @@ unfolding when _then_ writing writeTests countTests placeTests recordTests field
 minus-zero-write = refl
 
 -- One of them reads back from forty-eight bytes that were all 170.
-zero-bytes : (n i : ℕ) → _≡_ {A = ℕ} (getD (replicate n 0) i 0) 0
+pub zero-bytes : (n i : ℕ) → _≡_ {A = ℕ} (getD (replicate n 0) i 0) 0
 zero-bytes zero i = refl
 zero-bytes (suc n) zero = refl
 zero-bytes (suc n) (suc i) = zero-bytes n i
@@ -54,5 +54,5 @@ unfolding when _then_ writing writeTests countTests placeTests recordTests field
     markOf placesOf rawCount lengthOf generatorOf
 written = refl
 
-pub reads-back : ReadsBack (bytesAfter (Given 253) 3 (minusZero 11) lent) 384 3 (minusZero 11)
+pub reads-back : ReadsBack (bytesAfter (Given 253) 3 (string (minusZero 11)) lent) 384 3 (minusZero 11)
 reads-back = written-back lent 384 3 253 (minusZero 11) holds written

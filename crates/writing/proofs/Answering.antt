@@ -19,8 +19,8 @@ use Rattle.format.specs.Answers.{outcomeCode}
 use Rattle.format.specs.Records.{recordTests}
 use Rattle.format.specs.Strings.{lengthOf}
 use Rattle.format.specs.Tests.{when, _then_, giving, above, placeTests}
-use Rattle.format.specs.Writing.{string, writeTests, writing, writeReturned, bytesAfter, ReadsBack, WritePromise}
-use Rattle.format.proofs.Order.{passed-then, refused-then, then-pass, when-pass}
+use Rattle.format.specs.Writing.{string, writeTests, writing, writeReturned, withBits, ReadsBack, WritePromise}
+use Rattle.format.proofs.Order.{then-pass, when-pass, giving-refuses, giving-passes}
 use Rattle.format.proofs.Theorems.{written-back, write-numbered}
 use Rattle.format.proofs.Writing.{Typed, length-string}
 
@@ -29,30 +29,15 @@ abbrev pub later : ℕ → ℕ → Record → Answer
 later count place r = recordTests r then when (above (place + lengthOf (r .kind)) count) (RunsOut place)
 
 module _ (bytes count place : ℕ) (r : Record) where
-  answered : (a : Answer) → writeTests bytes count place r ≡ a → giving a (place + lengthOf (r .kind)) ≡ writing bytes count place r
-  unfolding writing
-  answered a e = ap (λ (z : Answer). giving z (place + lengthOf (r .kind))) (sym e)
-
   pub place-refuses : (a : Answer) (x : Refusal) → a ≡ placeTests bytes count place → a ≡ Refused x
       → NotGiven x ≡ writing bytes count place r
-  unfolding writeTests
-  place-refuses a x e f =
-      answered (Refused x)
-      (ap (λ (z : Answer). z then recordTests r then when (above (place + lengthOf (r .kind)) count) (RunsOut place)) (sym e ∙ f)
-      ∙ refused-then x _)
+  unfolding writing writeTests
+  place-refuses a x e f = giving-refuses (later count place r) (place + lengthOf (r .kind)) x (sym e ∙ f)
 
-  module _ (placed : placeTests bytes count place ≡ Passed) where
-    only-later : writeTests bytes count place r ≡ later count place r
-    unfolding writeTests
-    only-later =
-        ap (λ (y : Answer). y then recordTests r then when (above (place + lengthOf (r .kind)) count) (RunsOut place)) placed
-        ∙ passed-then _
-
-    pub later-refuses : (x : Refusal) → later count place r ≡ Refused x → NotGiven x ≡ writing bytes count place r
-    later-refuses x e = answered (Refused x) (only-later ∙ e)
-
-    pub all-pass : later count place r ≡ Passed → Given (place + lengthOf (r .kind)) ≡ writing bytes count place r
-    all-pass e = answered Passed (only-later ∙ e)
+  pub later-answers : placeTests bytes count place ≡ Passed → (a : Answer) → later count place r ≡ a
+      → giving a (place + lengthOf (r .kind)) ≡ writing bytes count place r
+  unfolding writing writeTests
+  later-answers placed a e = giving-passes (place + lengthOf (r .kind)) placed e
 
 pub later-says : (count place : ℕ) (r : Record) → later count place r ≡ Passed
     → (recordTests r ≡ Passed) × (place + lengthOf (r .kind) ≤ count)
@@ -82,9 +67,9 @@ refuses bytes count place r x e =
 module _ (bytes : List ℕ) (count place long : ℕ) (r : Record) (holds : Typed r) (el : long ≡ lengthOf (r .kind))
     (placed : placeTests (length bytes) count place ≡ Passed) (passed : later count place r ≡ Passed) where
   passes : Given (place + long) ≡ writing (length bytes) count place r
-  passes = ap (λ (n : ℕ). Given (place + n)) el ∙ all-pass (length bytes) count place r placed passed
+  passes = ap (λ (n : ℕ). Given (place + n)) el ∙ later-answers (length bytes) count place r placed Passed passed
 
-  pub writes : (after : List ℕ) → after ≡ bytesAfter (Given (place + long)) place r bytes
+  pub writes : (after : List ℕ) → after ≡ withBits place (string r) bytes
       → WritePromise bytes count place r (Given (place + long)) after
   writes after left =
       let back : ReadsBack after count place r =
@@ -121,5 +106,5 @@ module _ (bytes t : List ℕ) (place long : ℕ) (r : Record) (holds : Typed r) 
           length-put place (string r) (unpack bytes) (omega (arith, length-unpack bytes, length-string r holds, room)),
         )
 
-    pub part-put : after ≡ bytesAfter (Given (place + long)) place r bytes
+    pub part-put : after ≡ withBits place (string r) bytes
     part-put = sym (packed-unpack after below) ∙ ap₂ packed after-length after-bits

@@ -14,7 +14,7 @@ ghost use Rattle.format.specs.Records.{fieldTests, recordTests};
 ghost use Rattle.format.specs.Strings.{lengthOf};
 ghost use Rattle.format.specs.Tests.{bitLimit, when, above};
 ghost use Rattle.format.specs.Types.{mostRaw};
-ghost use Rattle.format.specs.Writing.{serviceBits, string, WritePromise};
+ghost use Rattle.format.specs.Writing.{serviceBits, string, withBits, WritePromise};
 
 // The service bits of a record, bits 13 to 50, as a number.
 fn service(r: Record) -> u64
@@ -58,8 +58,19 @@ fn put_string(part: &mut [u8], offset: usize, r: Record, long: usize)
     puts::put_field(part, offset + count, degree, c as u64);
 }
 
-// The test 5 of a string of so many bits at a place.
-fn room_test(count: usize, place: usize, long: usize) -> Answer
+// Puts the string of a record, of so many bits, at a place.
+pub fn put_at(rec: &mut [u8], place: usize, r: Record, long: usize)
+    requires { ⌜ (long ≡ lengthOf (r .kind)) × (place + long ≤ bitLimit) × (place + long ≤ 8 * length (now rec))
+        × (recordTests r ≡ Passed) ⌝ }
+    ensures { λ _. ⌜ now (rec .exit) ≡ withBits place (string r) (now (rec .entry)) ⌝ }
+{
+    let first = place / 8;
+    let last = (place + long + 7) / 8;
+    put_string(&mut rec[first..last], place % 8, r, long);
+}
+
+// The test 5 of so many bits at a place.
+pub fn room_test(count: usize, place: usize, long: usize) -> Answer
     requires { ⌜ (count ≤ bitLimit) × (place ≤ count) ⌝ }
     ensures { λ a. ⌜ a ≡ when (above (place + long) count) (RunsOut place) ⌝ }
 {
@@ -83,9 +94,7 @@ pub fn write(rec: &mut [u8], count: usize, place: usize, r: Record) -> Outcome
     if let Answer::Refused(refusal) = late {
         return Outcome::NotGiven(refusal);
     }
-    let first = place / 8;
-    let last = (place + long + 7) / 8;
-    put_string(&mut rec[first..last], place % 8, r, long);
+    put_at(rec, place, r, long);
     let next = place + long;
     Outcome::Given(next)
 }

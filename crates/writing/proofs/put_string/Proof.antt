@@ -3,14 +3,12 @@ use mathlib.Core.Path.{_≡_, _∙_}
 use Prim.Native.Nat.{ℕ, _+_, _*_, _≤_}
 use native.Mathlib.Omega.{arith}
 use lib.ListN.{length}
-use mir.Syntax.{w8}
-use borrow.Author.Needs.{needs, length-unmapped, elem-fits-field}
+use borrow.Author.Needs.{needs}
 use Rattle.bits.proofs.Bytes.{length-unpack}
 use Rattle.format.specs.declared.Record.{Record}
 use Rattle.format.specs.Fields.{total}
 use Rattle.format.specs.Strings.{checkBits}
-use Rattle.format.specs.Records.{rawBytes}
-use Rattle.format.specs.Types.{places, placesOf}
+use Rattle.format.specs.Types.{placesOf}
 use Rattle.format.proofs.Information.{string-filled, raw-few}
 use Rattle.format.proofs.Writing.{Typed}
 use Rattle.types.proofs.Cases.{length-least, check-few}
@@ -60,14 +58,7 @@ module _ (c : tie.After-raw-count) where
   pieces = omega (arith, string-filled (r .kind), degree-is, c .raw-count .ensures, at-start .pre .1)
 
   holds : Typed r
-  holds =
-      let g = at-start .good .1 .1 .0 .1 .1 .1 .1 .1 .1 .1 .1 .1 .1 .1 in
-      record {
-        numbers = length-unmapped _ (r .numbers) places (g .0 .1 .0 .1);
-        minus = g .1 .0 .1;
-        raw = length-unmapped _ (r .raw) rawBytes (g .1 .1 .0 .1 .0 .1);
-        bytes = λ i. elem-fits-field w8 w8 (r .raw) _ i (g .1 .1 .0 .1 .1) tt .fits;
-      }
+  holds = search needs
 
 -- after the first `put_field`: mark and service fields are put
 module _ (c : tie.After-put-field) where

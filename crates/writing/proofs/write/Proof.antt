@@ -1,25 +1,19 @@
--- `writing::write`: each return is where the chain of tests ends, and the part that comes back is the string put into the bytes. Assumes
--- nothing.
+-- `writing::write`: each return is where the chain of tests ends. Assumes nothing.
 use mathlib.Core.Path.{_≡_, sym, ap, ap₂, _∙_}
 use mathlib.Core.List.{List}
 use Prim.Native.Nat.{ℕ, _+_, _≤_}
 use native.Mathlib.Omega.{arith}
-use lib.ListN.{length, length-take, length-drop}
-use mir.Syntax.{w8}
-use borrow.Author.Needs.{needs, length-unmapped, elem-fits-field}
-use Rattle.format.specs.declared.Answer.the-variants.{Passed}
-use Rattle.format.specs.declared.Outcome.the-variants.{Given}
+use lib.ListN.{length}
+use borrow.Author.Needs.{needs}
+use Rattle.format.specs.declared.Answer.the-variants.{Passed, Refused}
 use Rattle.format.specs.declared.Record.{Record}
 use Rattle.format.specs.declared.Refusal.the-variants.{RunsOut}
-use Rattle.format.specs.Records.{rawBytes, recordTests}
-use Rattle.format.specs.Types.{places}
+use Rattle.format.specs.Records.{recordTests}
 use Rattle.format.specs.Strings.{lengthOf}
 use Rattle.format.specs.Tests.{when, _then_, above, placeTests, Passes}
-use Rattle.format.specs.Writing.{bytesAfter, WritePromise}
 use Rattle.format.proofs.Tests.{place-passes}
 use Rattle.format.proofs.Writing.{Typed}
-use Rattle.types.proofs.Cases.{length-least}
-use Rattle.writing.proofs.Answering.{later, place-refuses, later-refuses, later-says, refuses, writes, part-put}
+use Rattle.writing.proofs.Answering.{later, place-refuses, later-answers, later-says, refuses, writes}
 use Rattle.writing.proofs.write.Statement.{statement}
 use Rattle.writing.proofs.write.Tie as tie
 
@@ -82,18 +76,7 @@ module _ (c : tie.After-enum-told2) where
   room = omega (arith, fits .1, long-is tested)
 
   holds : Typed (r t)
-  holds =
-      let g = at-start t .good .1 .1 .1 .0 .1 .1 .1 .1 .1 .1 .1 .1 .1 .1 .1 in
-      record {
-        numbers = length-unmapped _ (r t .numbers) places (g .0 .1 .0 .1);
-        minus = g .1 .0 .1;
-        raw = length-unmapped _ (r t .raw) rawBytes (g .1 .1 .0 .1 .0 .1);
-        bytes = λ i. elem-fits-field w8 w8 (r t .raw) _ i (g .1 .1 .0 .1 .1) tt .fits;
-      }
-
-  promised : (after : List ℕ) → after ≡ bytesAfter (Given (place t + long tested)) (place t) (r t) (bytes t)
-      → WritePromise (bytes t) (count t) (place t) (r t) (Given (place t + long tested)) after
-  promised = writes (bytes t) (count t) (place t) (long tested) (r t) holds (long-is tested) (placed t) late-passes
+  holds = search needs
 
 -- ---- what the code asks, in its order
 
@@ -129,31 +112,16 @@ enum-known-late c = search needs
 returns-2 : tie.Need-returns-2
 returns-2 c =
     let f = c .before .before .before in
-    refuses _ _ _ _ _ (later-refuses _ _ _ _ (placed (told f)) _ (sym (late-is f) ∙ c .before .late .given .1))
+    refuses _ _ _ _ _ (later-answers _ _ _ _ (placed (told f)) (Refused _) (sym (late-is f) ∙ c .before .late .given .1))
 
 enum-told-2 : tie.Need-enum-told-2
 enum-told-2 c = search needs
 
-add-last : tie.Need-add-last
-add-last c = omega (arith, room c, inside (t c) .0 .short-enough)
-
-add-last-2 : tie.Need-add-last-2
-add-last-2 c = omega (arith, room c, inside (t c) .0 .short-enough)
-
-sub-put-string : tie.Need-sub-put-string
-sub-put-string c = search needs
-
-part-put-string-start : tie.Need-part-put-string-start
-part-put-string-start c = search needs
-
-part-put-string-end : tie.Need-part-put-string-end
-part-put-string-end c = omega (arith, room c, inside (t c) .0 .in-bytes)
-
-put-string-requires : tie.Need-put-string-requires
-put-string-requires c κs =
+put-at-requires : tie.Need-put-at-requires
+put-at-requires c κs =
     let p = c .before in
-    let l = length-least _ _ (long-is (tested p)) in
-    (omega arith, long-is (tested p), simp (length-take, length-drop) (omega (arith, room p, inside (t p) .0 .in-bytes, l .0)), fits p .0)
+    let i = inside (t p) .0 in
+    (long-is (tested p), omega (arith, room p, i .short-enough), omega (arith, room p, i .in-bytes), fits p .0)
 
 add-next : tie.Need-add-next
 add-next c = let p = c .before .before .before .before in omega (arith, room p, inside (t p) .0 .short-enough)
@@ -166,9 +134,8 @@ returns-3 c =
     let s = c .before .before in
     let p = s .before .before in
     let e = t p in
-    promised p _
-    (part-put (bytes e) (s .put-string .last .0) (place e) _ (r e) (holds p) (long-is (tested p))
-    (omega (arith, room p, inside e .0 .in-bytes)) (λ i. c .slice-known2 .given i .fits) (s .put-string .ensures))
+    writes (bytes e) (count e) (place e) (long (tested p)) (r e) (holds p) (long-is (tested p)) (placed e) (late-passes p) _
+    (s .put-at .ensures)
 
 pub write-spec : {M : Type 1} → statement M
 write-spec =
@@ -185,12 +152,7 @@ write-spec =
     enum-known-late
     returns-2
     enum-told-2
-    add-last
-    add-last-2
-    sub-put-string
-    part-put-string-start
-    part-put-string-end
-    put-string-requires
+    put-at-requires
     add-next
     same-length
     returns-3)
