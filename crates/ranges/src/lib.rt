@@ -70,7 +70,7 @@ fn all_ranges(r: Record) -> Answer
 {
     let numbers = r.numbers;
     let from10 = number_ranges(r.kind, numbers);
-    let from9 = limit(9, r.time, 0, 43199, from10);
+    let from9 = limit(9, r.time, 0, format::LAST_TIME, from10);
     let from8 = limit(8, r.next as u64, 0, 1, from9);
     let from7 = limit(7, r.correction as u64, 0, 3, from8);
     let from6 = limit(6, r.attitude as u64, 0, 1, from7);
