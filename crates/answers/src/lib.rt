@@ -31,6 +31,9 @@ pub fn refusal_code(refusal: Refusal) -> Code
         Refusal::ListShort(needed) => coded(9, needed),
         Refusal::MinusZero(bit) => coded(10, bit),
         Refusal::NotZero => coded(11, 0),
+        Refusal::OtherTypes => coded(12, 0),
+        Refusal::OtherSatellites => coded(13, 0),
+        Refusal::OtherTimes => coded(14, 0),
     }
 }
 

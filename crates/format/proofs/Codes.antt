@@ -10,6 +10,7 @@ use Rattle.format.specs.declared.Outcome.the-variants.{Given, NotGiven}
 use Rattle.format.specs.declared.Refusal.{Refusal}
 use Rattle.format.specs.declared.Refusal.the-variants.{TooLong, BeyondBytes, BeyondCount, NoMark, RunsOut, CheckFails}
 use Rattle.format.specs.declared.Refusal.the-variants.{OutOfRange, OtherOrbit, ListShort, MinusZero, NotZero}
+use Rattle.format.specs.declared.Refusal.the-variants.{OtherTypes, OtherSatellites, OtherTimes}
 use Rattle.format.specs.declared.Value.{Value}
 use Rattle.format.specs.declared.Value.the-variants.{Number, NoValue}
 
@@ -25,6 +26,9 @@ not-zero OtherOrbit e = omega arith
 not-zero (ListShort count) e = omega arith
 not-zero (MinusZero bit) e = omega arith
 not-zero NotZero e = omega arith
+not-zero OtherTypes e = omega arith
+not-zero OtherSatellites e = omega arith
+not-zero OtherTimes e = omega arith
 
 pub zero-passed : (a : Answer) → answerCode a .0 ≡ 0 → a ≡ Passed
 zero-passed Passed e = refl

@@ -14,12 +14,15 @@ use Rattle.format.specs.declared.Outcome.{Outcome}
 use Rattle.format.specs.declared.Record.{Record}
 use Rattle.format.specs.declared.Refusal.{Refusal}
 use Rattle.format.specs.declared.Refusal.the-variants.{OutOfRange, MinusZero}
+use Rattle.format.specs.declared.Set.{Set}
 use Rattle.format.specs.Answers.{refusalCode, answerCode, outcomeCode, valueCode}
 use Rattle.format.specs.Fields.{Field, absent, inRange}
 use Rattle.format.specs.Listing.{listLines, listAnswer}
-use Rattle.format.specs.Reading.{recordAt, reading, readReturned}
+use Rattle.format.specs.Reading.{recordAt, reading, readLines, readReturned}
 use Rattle.format.specs.Records.{numbersOf, ranges, firstOutside, otherOrbit, fieldTests, fieldLines}
 use Rattle.format.specs.Records.{unused, overfilled, markBits, mayBear, stray, lowestStray, recordTests, recordLines}
+use Rattle.format.specs.Sets.{otherTypes, otherSatellites, otherTimes, setTests, setLines, secondPlace, thirdPlace, setAt}
+use Rattle.format.specs.Sets.{setReading, setReadReturned, setLength, memberTests, setWriteTests, setWriting, setWriteReturned}
 use Rattle.format.specs.Standing.{stringTests, stringLines}
 use Rattle.format.specs.Strings.{lengthOf}
 use Rattle.format.specs.Tests.{isPassed, refuses, when, _then_, giving, Line, on, returned}
@@ -164,18 +167,42 @@ pub list-numbered : (bytes count room found : ℕ)
 unfolding listAnswer
 list-numbered bytes count room found = giving-returned (tells-then (count-tells bytes count) (tells-when _ _)) found
 
+read-tells : (bytes : List ℕ) (count place : ℕ) → Tells (reading bytes count place .answer) (readLines bytes count place)
+unfolding reading
+read-tells bytes count place =
+    let u = recorded bytes count in
+    tells-then (place-tells (length bytes) count place) (tells-then (string-tells u place) (field-tells (recordAt u place)))
+
 pub read-numbered : (bytes : List ℕ) (count place : ℕ)
     → answerCode (reading bytes count place .answer) ≡ readReturned bytes count place
-unfolding reading
-read-numbered bytes count place =
-    let u = recorded bytes count in
-    tells-then (place-tells (length bytes) count place) (tells-then (string-tells u place) (field-tells (recordAt u place))) .code
+read-numbered bytes count place = read-tells bytes count place .code
 
 pub write-numbered : (bytes count place : ℕ) (r : Record)
     → outcomeCode (writing bytes count place r) ≡ writeReturned bytes count place r
 unfolding writing writeTests
 write-numbered bytes count place r =
     giving-returned (tells-then (place-tells bytes count place) (tells-then (record-tells r) (tells-when _ _))) (place + lengthOf (r .kind))
+
+-- 12, 13, 14
+set-tells : (s : Set) → Tells (setTests s) (setLines s)
+unfolding setTests
+set-tells s = tells-then (tells-when (otherTypes s) _) (tells-then (tells-when (otherSatellites s) _) (tells-when (otherTimes s) _))
+
+pub set-read-numbered : (bytes : List ℕ) (count place : ℕ)
+    → answerCode (setReading bytes count place .answer) ≡ setReadReturned bytes count place
+unfolding setReading
+set-read-numbered bytes count place =
+    tells-then (read-tells bytes count place)
+    (tells-then (read-tells bytes count (secondPlace bytes count place))
+    (tells-then (read-tells bytes count (thirdPlace bytes count place)) (set-tells (setAt bytes count place)))) .code
+
+pub set-write-numbered : (bytes count place : ℕ) (s : Set)
+    → outcomeCode (setWriting bytes count place s) ≡ setWriteReturned bytes count place s
+unfolding setWriting setWriteTests memberTests
+set-write-numbered bytes count place s =
+    let members = tells-then (record-tells (s .first)) (tells-then (record-tells (s .second)) (record-tells (s .third))) in
+    giving-returned (tells-then (place-tells bytes count place) (tells-then members (tells-then (set-tells s) (tells-when _ _))))
+    (place + setLength)
 
 value-told : (a : Answer) (x : Float)
     → (valueCode (valueAnswer a x) .0 ≡ answerCode a .0) × (valueCode (valueAnswer a x) .1 ≡ answerCode a .1)

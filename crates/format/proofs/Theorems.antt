@@ -3,7 +3,7 @@ use mathlib.Core.Path.{_≡_}
 use mathlib.Core.Bool.{Bool}
 use mathlib.Core.List.{List}
 use mathlib.Core.Logic.{_↔_}
-use Prim.Native.Nat.{ℕ, _*_, _≤_, _<_}
+use Prim.Native.Nat.{ℕ, _+_, _*_, _%_, _≤_, _<_}
 use lib.IntN.{ℤ}
 use lib.ListN.{length, getD}
 use Rattle.bits.specs.Bits.{recorded}
@@ -12,13 +12,17 @@ use Rattle.format.specs.declared.Answer.the-variants.{Passed}
 use Rattle.format.specs.declared.Outcome.{Outcome}
 use Rattle.format.specs.declared.Outcome.the-variants.{Given}
 use Rattle.format.specs.declared.Record.{Record}
+use Rattle.format.specs.declared.Set.{Set}
 use Rattle.format.specs.Answers.{answerCode, outcomeCode, valueCode}
 use Rattle.format.specs.Demand3.{Clean, InStep, ListPromise}
 use Rattle.format.specs.Listing.{Lists, starts, listAnswer, listLines, listAfter, listing}
 use Rattle.format.specs.Reading.{reading, readReturned, SameThere}
+use Rattle.format.specs.Sets.{nextTime, setTests, Together, secondPlace, thirdPlace, setReading, setReadReturned, SetThere}
+use Rattle.format.specs.Sets.{setLength, setBits, setWriting, setWriteReturned, SetReadsBack, SetWritesBack}
 use Rattle.format.specs.Standing.{stringTests, standing}
 use Rattle.format.specs.Strings.{stringBits, typeAt, lengthOf, checkBits, Stands}
 use Rattle.format.specs.Tests.{returned}
+use Rattle.format.specs.Types.{lastTime}
 use Rattle.format.specs.Values.{scaling, scaleReturned, accuracy, accuracyReturned, dayCount, daysReturned}
 use Rattle.format.specs.Writing.{string, writing, writeReturned, bytesAfter, ReadsBack, WritesBack}
 use Rattle.format.proofs.Agree
@@ -29,6 +33,8 @@ use Rattle.format.proofs.Promise
 use Rattle.format.proofs.Resync
 use Rattle.format.proofs.RoundTrips
 use Rattle.format.proofs.Rule
+use Rattle.format.proofs.Sets
+use Rattle.format.proofs.Sets.{TypedSet}
 use Rattle.format.proofs.Writing.{Typed}
 
 -- ---- what stands
@@ -78,6 +84,35 @@ pub read-back : (bytes : List ℕ) (count place : ℕ) → ((i : ℕ) → getD b
     → WritesBack bytes count place (reading bytes count place .content)
 read-back = RoundTrips.read-back
 
+-- ---- sets
+
+-- OMB counts modulo 43200.
+pub next-time : (time : ℕ) → time ≤ lastTime → nextTime time ≡ (time + 1) % 43200
+next-time = Sets.next-time
+
+-- The tests 12, 13, 14 pass exactly where three records belong together.
+pub set-passes : (s : Set) → (setTests s ≡ Passed) ↔ Together s
+set-passes = Sets.set-passes
+
+-- A set is read exactly where its three strings read, end to end, and belong together.
+pub set-exact : (bytes : List ℕ) (count place : ℕ) (s : Set)
+    → (setReading bytes count place ≡ record { answer = Passed; content = s }) ↔ SetThere bytes count place s
+set-exact = Sets.set-exact
+
+-- The bits of a set are 750.
+pub length-set-bits : (s : Set) → TypedSet s → Together s → length (setBits s) ≡ setLength
+length-set-bits = Sets.length-set-bits
+
+-- A set that writes reads back the same, and so does each of its strings by itself.
+pub set-written-back : (bytes : List ℕ) (count place next : ℕ) (s : Set) → TypedSet s → setWriting (length bytes) count place s ≡ Given next
+    → SetReadsBack (bytesAfter (Given next) place (setBits s) bytes) count place s
+set-written-back = Sets.set-written-back
+
+-- A set that reads writes back to the same bits and bytes.
+pub set-read-back : (bytes : List ℕ) (count place : ℕ) (s : Set) → ((i : ℕ) → getD bytes i 0 < 256) → SetThere bytes count place s
+    → SetWritesBack bytes count place s
+set-read-back = Sets.set-read-back
+
 -- ---- only the bytes that a string covers
 
 -- Two recordings of one length, with the same bit count, that agree on the bytes that the string at a place covers: what stands there is
@@ -90,7 +125,15 @@ pub reading-covered : (bytes others : List ℕ) (count place : ℕ) → length o
     → reading others count place ≡ reading bytes count place
 reading-covered = Covered.reading-covered
 
--- ---- answers by the paper's number and value
+-- The same of a set, whose strings are read up to the first that is refused.
+pub set-covered : (bytes others : List ℕ) (count place : ℕ) → length others ≡ length bytes → SameThere others bytes count place
+    → (reading bytes count place .answer ≡ Passed → SameThere others bytes count (secondPlace bytes count place))
+    → (reading bytes count place .answer ≡ Passed → reading bytes count (secondPlace bytes count place) .answer ≡ Passed
+    → SameThere others bytes count (thirdPlace bytes count place))
+    → setReading others count place ≡ setReading bytes count place
+set-covered = Sets.set-covered
+
+-- ---- answers by the papers' number and value
 
 pub list-numbered : (bytes count room found : ℕ)
     → outcomeCode (listAnswer bytes count room found) ≡ returned (listLines bytes count room found) found
@@ -103,6 +146,14 @@ read-numbered = Numbered.read-numbered
 pub write-numbered : (bytes count place : ℕ) (r : Record)
     → outcomeCode (writing bytes count place r) ≡ writeReturned bytes count place r
 write-numbered = Numbered.write-numbered
+
+pub set-read-numbered : (bytes : List ℕ) (count place : ℕ)
+    → answerCode (setReading bytes count place .answer) ≡ setReadReturned bytes count place
+set-read-numbered = Numbered.set-read-numbered
+
+pub set-write-numbered : (bytes count place : ℕ) (s : Set)
+    → outcomeCode (setWriting bytes count place s) ≡ setWriteReturned bytes count place s
+set-write-numbered = Numbered.set-write-numbered
 
 pub scale-numbered : (r : Record) (n : ℕ)
     → (valueCode (scaling r n) .0 ≡ scaleReturned r n .0) × (valueCode (scaling r n) .1 ≡ scaleReturned r n .1)

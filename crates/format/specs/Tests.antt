@@ -36,7 +36,8 @@ giving (Refused r) n = NotGiven r
 
 -- ---- by number and value
 
--- A line of document 01's table: where a condition holds, a number and its value are returned.
+-- A line of the papers' table of answers (document 01's; from 12 on document 02's): where a condition holds, a number and its value are
+-- returned.
 pub data Line : Type 0 where
   on : (holds : Bool) (number value : ℕ) → Line
 
