@@ -68,7 +68,7 @@ fn decoded(part: &[u8], offset: usize, kind: u8, long: usize) -> Record
 }
 
 // A record with every place 0.
-fn blank_record() -> Record
+pub fn blank_record() -> Record
     ensures { λ r. ⌜ r ≡ blank ⌝ }
 {
     Record {
