@@ -3,8 +3,10 @@ use Prim.Native.Nat.{ℕ}
 use lib.Ieee.{Float}
 use Rattle.format.specs.Answers.{answerCode}
 use Rattle.format.specs.declared.Reading.{Reading}
+use Rattle.format.specs.declared.SetReading.{SetReading}
 use Rattle.answers.specs.declared.Code.{Code}
 use Rattle.l1oc.specs.declared.ReadCode.{ReadCode}
+use Rattle.l1oc.specs.declared.SetCode.{SetCode}
 use Rattle.l1oc.specs.declared.ValueCode.{ValueCode}
 
 -- A number and a value.
@@ -14,6 +16,10 @@ coded p = record { number = p .0; value = p .1 }
 -- The number and the value of reading's answer, and the record beside it.
 abbrev pub readCoded : Reading → ReadCode
 readCoded r = record { number = answerCode (r .answer) .0; value = answerCode (r .answer) .1; content = r .content }
+
+-- The same of a set.
+abbrev pub setCoded : SetReading → SetCode
+setCoded r = record { number = answerCode (r .answer) .0; value = answerCode (r .answer) .1; content = r .content }
 
 -- A number, a value and a float.
 abbrev pub valueCoded : ℕ × ℕ × Float → ValueCode

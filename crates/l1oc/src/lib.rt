@@ -1,6 +1,7 @@
 // The C interface (`include/l1oc.h`): each function gives the answer of a proved one as the paper's number and value.
 use answers::Code;
 use format::Record;
+use format::Set;
 use format::Value;
 ghost use mathlib.Core.Path.{_≡_};
 ghost use lib.ListN.{length};
@@ -8,10 +9,12 @@ ghost use Rattle.format.specs.Answers.{outcomeCode, valueCode};
 ghost use Rattle.format.specs.Demand3.{ListPromise};
 ghost use Rattle.format.specs.Listing.{listing, listReturned};
 ghost use Rattle.format.specs.Reading.{reading, readReturned};
+ghost use Rattle.format.specs.Sets.{setReading, setReadReturned, setWriting, setWriteReturned, SetReadsBack, SetWritesBack};
+ghost use Rattle.format.specs.Sets.{SetReadPromise, SetWritePromise};
 ghost use Rattle.format.specs.Values.{powerOf, countOf, IsScaled, scaling, scaleReturned, ScalePromise};
 ghost use Rattle.format.specs.Values.{accuracy, accuracyReturned, dayCount, daysReturned};
 ghost use Rattle.format.specs.Writing.{writing, writeReturned, ReadsBack, WritesBack, ReadPromise, WritePromise};
-ghost use Rattle.l1oc.specs.Codes.{coded, readCoded, valueCoded};
+ghost use Rattle.l1oc.specs.Codes.{coded, readCoded, setCoded, valueCoded};
 
 // What reading answers: 0 and 0 beside the record, or a refusal beside a blank one.
 #[repr(C)]
@@ -19,6 +22,14 @@ pub struct ReadCode {
     pub number: u64,
     pub value: u64,
     pub content: Record,
+}
+
+// What reading a set answers: 0 and 0 beside the set, or a refusal beside three blank records.
+#[repr(C)]
+pub struct SetCode {
+    pub number: u64,
+    pub value: u64,
+    pub content: Set,
 }
 
 // What scaling answers: 0 and 0 beside the value, or a refusal beside 0.0.
@@ -92,6 +103,39 @@ pub extern "C" fn l1oc_write(bytes: &mut [u8], count: usize, place: usize, conte
     ensures { λ r. ⌜ (r .number ≡ 0 → ReadsBack (now (bytes .exit)) count place content) ⌝ }
 {
     let answer = writing::write(bytes, count, place, content);
+    answers::outcome_code(answer)
+}
+
+// Reads the set at a place: the answer, beside the set or a blank one.
+#[no_mangle]
+pub extern "C" fn l1oc_read_set(bytes: &[u8], count: usize, place: usize) -> SetCode
+    ensures { λ r. ⌜ r ≡ setCoded (setReading (now (bytes .entry)) count place) ⌝ }
+    ensures { λ r. ⌜ (r .number ≡ setReadReturned (now (bytes .entry)) count place .0)
+        × (r .value ≡ setReadReturned (now (bytes .entry)) count place .1) ⌝ }
+    ensures { λ _. ⌜ SetReadPromise (now (bytes .entry)) count place (setReading (now (bytes .entry)) count place) ⌝ }
+    ensures { λ r. ⌜ (r .number ≡ 0 → SetWritesBack (now (bytes .entry)) count place (r .content)) ⌝ }
+{
+    let found = sets::read(bytes, count, place);
+    let answer = found.answer;
+    let content = found.content;
+    let code = answers::answer_code(answer);
+    SetCode {
+        number: code.number,
+        value: code.value,
+        content,
+    }
+}
+
+// Writes a set at a place, and answers the place after it. A refusal leaves every byte unchanged.
+#[no_mangle]
+pub extern "C" fn l1oc_write_set(bytes: &mut [u8], count: usize, place: usize, content: Set) -> Code
+    ensures { λ r. ⌜ r ≡ coded (outcomeCode (setWriting (length (now (bytes .entry))) count place content)) ⌝ }
+    ensures { λ r. ⌜ r ≡ coded (setWriteReturned (length (now (bytes .entry))) count place content) ⌝ }
+    ensures { λ _. ⌜ SetWritePromise (now (bytes .entry)) count place content
+        (setWriting (length (now (bytes .entry))) count place content) (now (bytes .exit)) ⌝ }
+    ensures { λ r. ⌜ (r .number ≡ 0 → SetReadsBack (now (bytes .exit)) count place content) ⌝ }
+{
+    let answer = sets::write(bytes, count, place, content);
     answers::outcome_code(answer)
 }
 
