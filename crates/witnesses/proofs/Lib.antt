@@ -4,4 +4,5 @@ pub mod Witnesses
 pub mod Needed
 pub mod Covered
 pub mod Writable
+pub mod Sets
 pub mod Values

@@ -3,4 +3,5 @@ pub mod Starred
 pub mod Recordings
 pub mod Needed
 pub mod Writable
+pub mod Sets
 pub mod Values
