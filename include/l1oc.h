@@ -32,19 +32,25 @@ extern "C" {
 #define L1OC_RAW_BYTES 38
 #define L1OC_RECORD_BYTES 184
 
+/* The bits of a set: three strings of 250. */
+#define L1OC_SET_BITS 750
+
 /* Why a call is refused: the numbers, each with its value and when. */
 enum l1oc_refusal {
-    L1OC_TOO_LONG = 1,     /* 0: count is above L1OC_MAX_BITS */
-    L1OC_BEYOND_BYTES = 2, /* 0: count is above 8 * length */
-    L1OC_BEYOND_COUNT = 3, /* place: it is above count */
-    L1OC_NO_MARK = 4,      /* place: the bits there are not the time mark */
-    L1OC_RUNS_OUT = 5,     /* place: reading, fewer than 18 bits are left or the string runs past count; writing, it would */
-    L1OC_CHECK_FAILS = 6,  /* place: the check of the string there fails */
-    L1OC_OUT_OF_RANGE = 7, /* field: the first that is out of its range, by its number from 1 on; or as a function says below */
-    L1OC_OTHER_ORBIT = 8,  /* 10: type 20 with orbit (field 10) not 0 */
-    L1OC_LIST_SHORT = 9,   /* entries needed: the list is too short */
-    L1OC_MINUS_ZERO = 10,  /* bit: the lowest of the minus-zero mark that is on an unsigned, absent or non-zero field */
-    L1OC_NOT_ZERO = 11     /* 0: a number or a raw bit that the type does not use is not 0 */
+    L1OC_TOO_LONG = 1,          /* 0: count is above L1OC_MAX_BITS */
+    L1OC_BEYOND_BYTES = 2,      /* 0: count is above 8 * length */
+    L1OC_BEYOND_COUNT = 3,      /* place: it is above count */
+    L1OC_NO_MARK = 4,           /* place: the bits there are not the time mark */
+    L1OC_RUNS_OUT = 5,          /* place: reading, fewer than 18 bits are left or the string runs past count; writing, the bits would */
+    L1OC_CHECK_FAILS = 6,       /* place: the check of the string there fails */
+    L1OC_OUT_OF_RANGE = 7,      /* field: the first that is out of its range, by its number from 1 on; or as a function says below */
+    L1OC_OTHER_ORBIT = 8,       /* 10: type 20 with orbit (field 10) not 0 */
+    L1OC_LIST_SHORT = 9,        /* entries needed: the list is too short */
+    L1OC_MINUS_ZERO = 10,       /* bit: the lowest of the minus-zero mark that is on an unsigned, absent or non-zero field */
+    L1OC_NOT_ZERO = 11,         /* 0: a number or a raw bit that the type does not use is not 0 */
+    L1OC_OTHER_TYPES = 12,      /* 0: a set's types are not 10, 11, 12 in order */
+    L1OC_OTHER_SATELLITES = 13, /* 0: a set's satellite numbers differ */
+    L1OC_OTHER_TIMES = 14       /* 0: OMB does not rise by one from each of a set's records to the next (43199 goes to 0) */
 };
 
 /* An answer. */
@@ -154,6 +160,23 @@ struct l1oc_reading {
     struct l1oc_record content; /* the record; all 0 beside a refusal */
 };
 
+/*
+ * An ephemeris set: the immediate data of one satellite, whose three strings come one after another, each OMB one more than that before
+ * it (0 after 43199). Every byte of a set is one of a record.
+ */
+struct l1oc_set {
+    struct l1oc_record first;  /* of type 10 */
+    struct l1oc_record second; /* of type 11 */
+    struct l1oc_record third;  /* of type 12 */
+};
+
+/* What reading a set answers. */
+struct l1oc_set_reading {
+    uint64_t number;         /* 0, or the number of a refusal */
+    uint64_t value;          /* 0, or the value of the refusal */
+    struct l1oc_set content; /* the set; all 0 beside a refusal */
+};
+
 /* What scaling answers. */
 struct l1oc_value {
     uint64_t number; /* 0, or the number of a refusal */
@@ -189,6 +212,26 @@ struct l1oc_reading l1oc_read(const uint8_t *bytes, size_t length, size_t count,
  * Refuses, in this order, with 1, 2, 3, 7, 8, 11, 10, 5.
  */
 struct l1oc_answer l1oc_write(uint8_t *bytes, size_t length, size_t count, size_t place, struct l1oc_record content);
+
+/*
+ * Reads the set at a place: the first string there, the second where the first ends, the third where the second ends. A string of type 1
+ * or 2 ends after its own 125 or 375 bits. `bytes` is only read.
+ *
+ * Gives 0, 0 and the set. Writing that set at the place gives the same bytes again.
+ * Refuses as l1oc_read refuses the first string, then the second, then the third, each at its own place; where all three read, with 12,
+ * 13, 14, in this order.
+ */
+struct l1oc_set_reading l1oc_read_set(const uint8_t *bytes, size_t length, size_t count, size_t place);
+
+/*
+ * Writes the three strings of a set end to end at a place: L1OC_SET_BITS bits.
+ *
+ * Gives 0 and the place after them. It has set their bits and no others. Reading a set at the place gives the same set again. A refusal
+ * leaves every byte as it was.
+ * Refuses, in this order, with 1, 2, 3; with 7, 8, 11, 10 for the first record, then the second, then the third; with 12, 13, 14; with 5
+ * (the L1OC_SET_BITS bits would run past count).
+ */
+struct l1oc_answer l1oc_write_set(uint8_t *bytes, size_t length, size_t count, size_t place, struct l1oc_set content);
 
 /*
  * The value of a field that has a power of two, by its number: exactly its count times that power. Minus zero gives plus zero.

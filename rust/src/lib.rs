@@ -66,6 +66,33 @@ pub struct Reading {
     pub content: Record,
 }
 
+/// An ephemeris set: the records of types 10, 11 and 12 of one satellite.
+#[repr(C)]
+#[derive(Clone, Copy, Debug, PartialEq, Eq)]
+pub struct Set {
+    pub first: Record,
+    pub second: Record,
+    pub third: Record,
+}
+
+impl Set {
+    /// The set of three blank records.
+    pub const BLANK: Self = Self {
+        first: Record::BLANK,
+        second: Record::BLANK,
+        third: Record::BLANK,
+    };
+}
+
+/// What reading a set answers: the set, or a refusal beside a blank one.
+#[repr(C)]
+#[derive(Clone, Copy, Debug, PartialEq, Eq)]
+pub struct SetReading {
+    pub number: u64,
+    pub value: u64,
+    pub content: Set,
+}
+
 /// What scaling answers: the value, or a refusal beside 0.0.
 #[repr(C)]
 #[derive(Clone, Copy, Debug, PartialEq)]
@@ -77,7 +104,7 @@ pub struct Value {
 
 /// The functions as C declares them.
 pub mod c {
-    use super::{Answer, Reading, Record, Value};
+    use super::{Answer, Reading, Record, Set, SetReading, Value};
 
     extern "C" {
         pub fn l1oc_list(
@@ -94,6 +121,19 @@ pub mod c {
             count: usize,
             place: usize,
             content: Record,
+        ) -> Answer;
+        pub fn l1oc_read_set(
+            bytes: *const u8,
+            length: usize,
+            count: usize,
+            place: usize,
+        ) -> SetReading;
+        pub fn l1oc_write_set(
+            bytes: *mut u8,
+            length: usize,
+            count: usize,
+            place: usize,
+            content: Set,
         ) -> Answer;
         pub fn l1oc_scaled(content: Record, field: usize) -> Value;
         pub fn l1oc_accuracy(factor: i64) -> Answer;
@@ -125,6 +165,18 @@ pub fn read(bytes: &[u8], count: usize, place: usize) -> Reading {
 pub fn write(bytes: &mut [u8], count: usize, place: usize, content: Record) -> Answer {
     // SAFETY: the slice is lent whole, with its length.
     unsafe { c::l1oc_write(bytes.as_mut_ptr(), bytes.len(), count, place, content) }
+}
+
+#[inline(always)]
+pub fn read_set(bytes: &[u8], count: usize, place: usize) -> SetReading {
+    // SAFETY: the slice is lent whole, with its length.
+    unsafe { c::l1oc_read_set(bytes.as_ptr(), bytes.len(), count, place) }
+}
+
+#[inline(always)]
+pub fn write_set(bytes: &mut [u8], count: usize, place: usize, content: Set) -> Answer {
+    // SAFETY: the slice is lent whole, with its length.
+    unsafe { c::l1oc_write_set(bytes.as_mut_ptr(), bytes.len(), count, place, content) }
 }
 
 #[inline(always)]
