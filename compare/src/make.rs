@@ -70,10 +70,14 @@ pub fn close(before: &str, kind: u8) -> String {
     format!("{before}{}", check::bits(before, kind))
 }
 
+/// The bits of a record's string. Its fields may be out of range where they fit their width.
+pub fn string_of(record: &Record) -> String {
+    close(&plain::text_before_check(record), record.kind)
+}
+
 /// The bits of a valid string of the type.
 pub fn string(random: &mut Random, kind: u8) -> String {
-    let record = record(random, kind);
-    close(&plain::text_before_check(&record), kind)
+    string_of(&record(random, kind))
 }
 
 /// A string with a right check whose fields may hold anything; only the type is given.

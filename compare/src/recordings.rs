@@ -72,11 +72,6 @@ fn string(record: Record, information: &str) -> String {
     make::close(&format!("{before}{information}"), record.kind)
 }
 
-/// A string of the record as it is.
-fn blank(record: Record) -> String {
-    make::close(&plain::text_before_check(&record), record.kind)
-}
-
 fn random_bits(random: &mut Twister, many: usize) -> String {
     (0..many)
         .map(|_| random.between(0, 1).to_string())
@@ -109,9 +104,9 @@ fn out_of_range(random: &mut Twister) -> String {
     let ephemeris = information(random, 10);
     [
         "101",
-        &blank(service(0, 0, 7)),
+        &make::string_of(&service(0, 0, 7)),
         &string(service(10, 5, 43200), &ephemeris),
-        &blank(service(63, 63, 43199)),
+        &make::string_of(&service(63, 63, 43199)),
     ]
     .concat()
 }
@@ -132,7 +127,7 @@ fn other_orbit(random: &mut Twister) -> String {
 /// Noise before, between and in strings of every length, and a last string without its last bit.
 fn damaged(random: &mut Twister) -> String {
     let plain = |kind, correction, time| {
-        blank(Record {
+        make::string_of(&Record {
             correction,
             ..service(kind, 5, time)
         })

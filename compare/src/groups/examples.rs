@@ -155,8 +155,7 @@ fn counts(run: &mut Run) {
     run.expect("example 10", read(""), is(5, 0));
     run.expect("example 11", DayCount { n4: 1, nt: 1 }, is(0, 0));
     run.expect("example 11", DayCount { n4: 2, nt: 1 }, is(0, 1461));
-    let before = plain::text_before_check(&empty(0));
-    let string = make::close(&before, 0);
+    let string = make::string_of(&empty(0));
     run.expect("example 12", read(&string), is(0, 0));
     run.expect("example 12", read(&string[..249]), is(5, 0));
     let zeros = vec![0; LIMIT / 8 + 1];
