@@ -5,8 +5,10 @@ pub mod accuracy;
 pub mod day_count;
 pub mod list;
 pub mod read;
+pub mod read_set;
 pub mod scaled;
 pub mod write;
+pub mod write_set;
 
 use crate::lent::Memory;
 use crate::shrink::Shrink;
@@ -17,7 +19,7 @@ use std::fmt::Debug;
 pub trait Call: Clone {
     const NAME: &'static str;
 
-    /// The numbers that the function answers: 0 and its tests of document 01.
+    /// The numbers that the function answers: 0 and its tests in the papers.
     const NUMBERS: &'static [u64];
 
     /// The memory that is lent to it.

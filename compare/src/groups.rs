@@ -8,6 +8,7 @@ mod mixed;
 mod recordings;
 mod records;
 mod refusals;
+mod sets;
 mod strings;
 mod values;
 
@@ -46,4 +47,14 @@ pub const ALL: &[Group] = &[
     ("scaled values", values::scaled),
     ("accuracy factors", values::accuracy),
     ("day counts", values::day_count),
+    ("sets that pass", sets::pass),
+    ("sets with strings of other types", sets::types),
+    ("times of a set", sets::times),
+    ("sets with damaged strings", sets::damaged),
+    ("sets cut at every bit", sets::cut),
+    ("refusals 12, 13, 14 together", sets::tests),
+    ("refusals of reading a set together", sets::reading),
+    ("refusals of writing a set together", sets::writing),
+    ("random sets and places", mixed::sets),
+    ("recordings of sets", recordings::sets),
 ];

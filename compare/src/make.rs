@@ -1,8 +1,9 @@
 //! Records, strings and recordings to compare on.
 
+use crate::plain::set::next_time;
 use crate::plain::{self, check, table};
 use crate::random::Random;
-use l1oc::Record;
+use l1oc::{Record, Set};
 
 /// The types that have fields of their own.
 pub const WITH_FIELDS: [u8; 5] = [10, 11, 12, 20, 25];
@@ -48,6 +49,37 @@ pub fn record(random: &mut Random, kind: u8) -> Record {
     record
 }
 
+/// Records that pass their own tests, with these types, satellites and times.
+pub fn three(random: &mut Random, kinds: [u8; 3], satellites: [u8; 3], times: [u64; 3]) -> Set {
+    let [first, second, third] = [0, 1, 2].map(|place| Record {
+        satellite: satellites[place],
+        time: times[place],
+        ..record(random, kinds[place])
+    });
+    Set {
+        first,
+        second,
+        third,
+    }
+}
+
+/// Three records of one satellite, one after another in time; often OMB goes to 0 at a step.
+pub fn in_turn(random: &mut Random, kinds: [u8; 3]) -> Set {
+    let satellite = random.between(1, 63) as u8;
+    let first = match random.below(4) {
+        0 => random.between(43197, 43199) as u64,
+        _ => random.between(0, 43199) as u64,
+    };
+    let second = next_time(first);
+    let times = [first, second, next_time(second)];
+    three(random, kinds, [satellite; 3], times)
+}
+
+/// A set that passes every test.
+pub fn ephemeris(random: &mut Random) -> Set {
+    in_turn(random, [10, 11, 12])
+}
+
 /// Puts a number into the field with this number (1 to 9 service, 10 and on information).
 /// The service fields have 8 bits in a record, OMB has 64: a number below 0 is one from 2^63 on.
 pub fn set(record: &mut Record, field: usize, number: i64) {
@@ -73,6 +105,11 @@ pub fn close(before: &str, kind: u8) -> String {
 /// The bits of a record's string. Its fields may be out of range where they fit their width.
 pub fn string_of(record: &Record) -> String {
     close(&plain::text_before_check(record), record.kind)
+}
+
+/// The bits of the strings of a set.
+pub fn strings_of(set: &Set) -> [String; 3] {
+    plain::set::records(set).map(|record| string_of(&record))
 }
 
 /// The bits of a valid string of the type.

@@ -1,8 +1,9 @@
-//! The second implementation: documents 000 and 01 written out with texts of '0' and '1'.
-//! It is slow, and meant to be held beside the papers.
+//! The second implementation: documents 000 and 01, and the requests after them, written out with
+//! texts of '0' and '1'. It is slow, and meant to be held beside the papers.
 
 pub mod check;
 pub mod report;
+pub mod set;
 pub mod table;
 pub mod value;
 

@@ -1,6 +1,7 @@
 //! Bit counts and places around the ends of strings, bytes and recordings.
 
 use crate::make::{self, SHAPES};
+use crate::plain::set::BITS;
 use crate::plain::{self, LIMIT};
 use crate::run::Run;
 
@@ -38,6 +39,7 @@ pub fn places(run: &mut Run) {
         usize::MAX / 8,
         usize::MAX / 8 + 1,
         usize::MAX / 2,
+        usize::MAX - 750,
         usize::MAX - 375,
         usize::MAX - 1,
         usize::MAX,
@@ -46,13 +48,15 @@ pub fn places(run: &mut Run) {
         let kind = make::kind(&mut run.random);
         let string = make::string(&mut run.random, kind);
         let record = make::record(&mut run.random, kind);
+        let set = make::ephemeris(&mut run.random);
         let mut bytes = make::pack(&string);
         bytes.resize(length, 0xA5);
         let near = |middle: usize| middle.saturating_sub(3)..middle + 4;
         let counts: Vec<usize> = near(8 * length).chain(0..2).chain(huge).collect();
         for count in counts {
             let places = (0..3).chain(huge).chain(
-                [count, count - count.min(18), count - count.min(250)]
+                [0, 18, 250, BITS]
+                    .map(|bits| count - count.min(bits))
                     .into_iter()
                     .filter(|middle| *middle < usize::MAX - 4)
                     .flat_map(near),
@@ -60,6 +64,8 @@ pub fn places(run: &mut Run) {
             for place in places {
                 run.read(&bytes, count, place);
                 run.write(&bytes, count, place, &record);
+                run.read_set(&bytes, count, place);
+                run.write_set(&bytes, count, place, &set);
             }
             for room in 0..3 {
                 run.list(&bytes, count, room);
@@ -69,20 +75,24 @@ pub fn places(run: &mut Run) {
     end_of_the_longest(run);
 }
 
-/// Strings that end at the last bit of the longest recording, and just past it; the bytes may
-/// go on further.
+/// Strings and sets that end at the last bit of the longest recording, and just past it; the bytes
+/// may go on further.
 fn end_of_the_longest(run: &mut Run) {
     for length in [LIMIT / 8, LIMIT / 8 + 1, LIMIT / 8 + 100] {
         let bytes = run.random.bytes(length);
-        for kind in [0, 1, 2, 10] {
-            for short in 0..3 {
-                for count in [LIMIT - 1, LIMIT, LIMIT + 1] {
+        for short in 0..3 {
+            for count in [LIMIT - 1, LIMIT, LIMIT + 1] {
+                for kind in [0, 1, 2, 10] {
                     let place = LIMIT - plain::length(kind) + 1 - short;
                     let record = make::record(&mut run.random, kind);
                     let written = run.write(&bytes, count, place, &record).recording();
                     run.read(&written, count, place);
                     run.list(&written, count, 40);
                 }
+                let place = LIMIT - BITS + 1 - short;
+                let set = make::ephemeris(&mut run.random);
+                let written = run.write_set(&bytes, count, place, &set).recording();
+                run.read_set(&written, count, place);
             }
         }
     }

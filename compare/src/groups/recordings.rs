@@ -98,6 +98,28 @@ pub fn damaged(run: &mut Run) {
     }
 }
 
+/// Sets among other strings, with damaged stretches; a set is read at every start.
+pub fn sets(run: &mut Run) {
+    for _ in 0..2_000 * run.long {
+        let mut text = String::new();
+        for _ in 0..1 + run.random.below(4) {
+            let many = run.random.below(3);
+            text += &strings(&mut run.random, many).concat();
+            let set = make::ephemeris(&mut run.random);
+            text += &make::strings_of(&set).concat();
+        }
+        for _ in 0..run.random.below(3) {
+            damage(&mut run.random, &mut text);
+        }
+        let bytes = make::pack(&text);
+        let count = text.len() - run.random.below(3).min(text.len());
+        let found = run.list(&bytes, count, count / 125 + 1);
+        for start in found.starts() {
+            run.read_set(&bytes, count, *start as usize);
+        }
+    }
+}
+
 /// Whole strings, or the beginnings of strings, inside the raw bits of a longer one, which
 /// stands or has one bit wrong.
 pub fn nested(run: &mut Run) {

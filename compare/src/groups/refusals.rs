@@ -8,7 +8,7 @@ use l1oc::{Mark, Record, NUMBERS, RAW_BYTES};
 
 /// A recording of random bits that ends with the text at its bit count, which lies above the
 /// limit (1) and above the bytes (2) where asked.
-fn lend(run: &mut Run, text: &str, above_limit: bool, above_bytes: bool) -> (Vec<u8>, usize) {
+pub fn lend(run: &mut Run, text: &str, above_limit: bool, above_bytes: bool) -> (Vec<u8>, usize) {
     let lead = match above_limit {
         true => LIMIT + 1 + run.random.pick(&[0, 0, 1, 7, 2000]) - text.len(),
         false => run.random.below(40),
@@ -88,7 +88,7 @@ pub fn reading(run: &mut Run) {
 }
 
 /// Spoils a record so that 7, 8, 11 or 10 hold.
-fn spoil(run: &mut Run, record: &mut Record, holds: impl Fn(usize) -> bool) {
+pub fn spoil(run: &mut Run, record: &mut Record, holds: impl Fn(usize) -> bool) {
     let fields = table::information(record.kind).unwrap_or_default();
     if holds(8) && record.kind == 20 {
         record.numbers[0] = run.random.between(1, 3);

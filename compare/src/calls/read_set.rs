@@ -1,0 +1,84 @@
+//! Reading a set.
+
+use super::{answer, hex, Call, Outcome};
+use crate::lent::Lent;
+use crate::plain;
+use crate::run::Run;
+use crate::shrink::Shrink;
+use l1oc::refusal::*;
+use l1oc::{c, Answer, Set, SetReading};
+
+#[derive(Clone)]
+pub struct ReadSet {
+    pub bytes: Vec<u8>,
+    pub count: usize,
+    pub place: usize,
+}
+
+impl Call for ReadSet {
+    const NAME: &'static str = "reading a set";
+    const NUMBERS: &'static [u64] = &[
+        0,
+        TOO_LONG,
+        BEYOND_BYTES,
+        BEYOND_COUNT,
+        NO_MARK,
+        RUNS_OUT,
+        CHECK_FAILS,
+        OUT_OF_RANGE,
+        OTHER_ORBIT,
+        OTHER_TYPES,
+        OTHER_SATELLITES,
+        OTHER_TIMES,
+    ];
+    type Lent = Lent<u8>;
+    type Given = Set;
+
+    fn lend(&self) -> Lent<u8> {
+        Lent::bytes(&self.bytes)
+    }
+
+    fn plain(&self, bytes: &mut Lent<u8>) -> (Answer, Set) {
+        let set = plain::set::read(bytes, self.count, self.place);
+        (answer(set.map(|_| 0)), set.unwrap_or(Set::BLANK))
+    }
+
+    fn declared(&self, bytes: &mut Lent<u8>) -> (Answer, Set) {
+        let (lent, length) = (bytes.as_mut_ptr().cast_const(), bytes.len());
+        // SAFETY: the slice is lent whole, with its length.
+        parts(unsafe { c::l1oc_read_set(lent, length, self.count, self.place) })
+    }
+
+    fn safe(&self, bytes: &mut Lent<u8>) -> (Answer, Set) {
+        parts(l1oc::read_set(bytes, self.count, self.place))
+    }
+
+    fn shrink(shrink: &mut Shrink<Self>) {
+        shrink.recording(|call| (&mut call.bytes, &mut call.count, Some(&mut call.place)));
+    }
+
+    fn input(&self) -> String {
+        let bytes = hex(&self.bytes);
+        format!("count {}, place {}, bytes {bytes}", self.count, self.place)
+    }
+}
+
+fn parts(reading: SetReading) -> (Answer, Set) {
+    let SetReading {
+        number,
+        value,
+        content,
+    } = reading;
+    (Answer { number, value }, content)
+}
+
+impl Run {
+    pub fn read_set(&mut self, bytes: &[u8], count: usize, place: usize) -> Outcome<ReadSet> {
+        let bytes = bytes.to_vec();
+        self.compare(ReadSet {
+            bytes,
+            count,
+            place,
+        })
+    }
+}
