@@ -1,6 +1,6 @@
 /*
  * Holds include/l1oc.h against the library: the layout of every struct, and calls of every function with arguments that differ. What
- * they should give is written out from documents 000 and 01, the bytes of strings in hexadecimal. It is C99 and C++.
+ * they should give is written out from the papers, the bytes of strings in hexadecimal. It is C99 and C++.
  *
  * A function that joins the header is declared here again and gets a test: `test_` and its name without `l1oc_`.
  */
@@ -17,6 +17,8 @@ extern "C" {
 struct l1oc_answer l1oc_list(const uint8_t *bytes, size_t length, size_t count, uint32_t *list, size_t room);
 struct l1oc_reading l1oc_read(const uint8_t *bytes, size_t length, size_t count, size_t place);
 struct l1oc_answer l1oc_write(uint8_t *bytes, size_t length, size_t count, size_t place, struct l1oc_record content);
+struct l1oc_set_reading l1oc_read_set(const uint8_t *bytes, size_t length, size_t count, size_t place);
+struct l1oc_answer l1oc_write_set(uint8_t *bytes, size_t length, size_t count, size_t place, struct l1oc_set content);
 struct l1oc_value l1oc_scaled(struct l1oc_record content, size_t field);
 struct l1oc_answer l1oc_accuracy(int64_t factor);
 struct l1oc_answer l1oc_day_count(int64_t n4, int64_t nt);
@@ -77,6 +79,16 @@ static void layout(void)
     MEMBER(l1oc_reading, uint64_t, value, 8, 8);
     MEMBER(l1oc_reading, struct l1oc_record, content, 16, 184);
 
+    CHECK(sizeof(struct l1oc_set) == 552);
+    MEMBER(l1oc_set, struct l1oc_record, first, 0, 184);
+    MEMBER(l1oc_set, struct l1oc_record, second, 184, 184);
+    MEMBER(l1oc_set, struct l1oc_record, third, 368, 184);
+
+    CHECK(sizeof(struct l1oc_set_reading) == 568);
+    MEMBER(l1oc_set_reading, uint64_t, number, 0, 8);
+    MEMBER(l1oc_set_reading, uint64_t, value, 8, 8);
+    MEMBER(l1oc_set_reading, struct l1oc_set, content, 16, 552);
+
     CHECK(sizeof(struct l1oc_value) == 24);
     MEMBER(l1oc_value, uint64_t, number, 0, 8);
     MEMBER(l1oc_value, uint64_t, value, 8, 8);
@@ -91,6 +103,7 @@ static void limits_and_refusals(void)
     CHECK(L1OC_NUMBERS == 16);
     CHECK(L1OC_RAW_BYTES == 38);
     CHECK(L1OC_RECORD_BYTES == 184);
+    CHECK(L1OC_SET_BITS == 750);
     CHECK(L1OC_TOO_LONG == 1);
     CHECK(L1OC_BEYOND_BYTES == 2);
     CHECK(L1OC_BEYOND_COUNT == 3);
@@ -102,6 +115,9 @@ static void limits_and_refusals(void)
     CHECK(L1OC_LIST_SHORT == 9);
     CHECK(L1OC_MINUS_ZERO == 10);
     CHECK(L1OC_NOT_ZERO == 11);
+    CHECK(L1OC_OTHER_TYPES == 12);
+    CHECK(L1OC_OTHER_SATELLITES == 13);
+    CHECK(L1OC_OTHER_TIMES == 14);
 }
 
 /* ---- strings and records ---- */
@@ -150,6 +166,18 @@ static const struct string strings[STRINGS] = {
 /* The last of them at place 13 of 60 bytes that were all a5. */
 static const char placed[] =
     "a5a2f8850b66607391877d73695f554b41372d23190f04faf0e6dcd2c8beb4aaa0968c82786e645a50463c32297015bda5a5a5a5a5a5a5a5a5a5a5a5";
+
+/* Strings with j 0, OMB 43200, tb 960, and another orbit, which reading refuses. */
+static const struct {
+    const char *bytes;
+    uint64_t number;
+    uint64_t value;
+} wrong[] = {
+    {"5f1000000000000000000000000000000000000000000000000000000013ad00", 7, 2},
+    {"5f1005002a3000000000000000000000000000000000000000000000002f70c0", 7, 9},
+    {"5f12b3a52a2fcf34ad5e064a137cdecf26563c484a0003ba517521afe841d480", 7, 14},
+    {"5f151805c4006621b6b57fff3ffffeb1101fff3fffc0007fffe7f55555777e40", 8, 10},
+};
 
 /* Bytes from hexadecimal digits, and how many there are. */
 static size_t from_hex(const char *digits, uint8_t *bytes)
@@ -244,6 +272,80 @@ static void make_refused(void)
     refuse(&strings[2], 10, 1)->minus |= 1u << 1;
 }
 
+/* ---- sets ---- */
+
+/* The first three strings end to end, with j 51 and OMB 43199, 0, 1. */
+static const char set_bytes[] =
+    "5f12b3a52a2fcf34ad5dde4a137cdecf26563c484a0003ba517521afe84e5b57c4bcd6200005d21dba001c5d964b"
+    "8028000000000f73594006ffbe0057a825f13333e000068029502f8ffe00000000bfffbffe0003ffff77359402ac4938";
+
+/* The same at place 13 of 100 bytes that were all a5. */
+static const char placed_set[] =
+    "a5a2f8959d29517e79a56aeef2509be6f67932b1e24250001dd28ba90d7f4272dabe25e6b100002e90edd000e2ecb25c01"
+    "40000000007b9aca0037fdf002bd412f89999f000034014a817c7ff000000005fffdfff0001ffffbb9aca0156249c5a5a5a5a5";
+
+/* Three of the strings above as records of satellite 51, with OMB 43199, 0, 1. */
+static struct l1oc_set set_of(size_t first, size_t second, size_t third)
+{
+    struct l1oc_set set;
+
+    set.first = record_of(&strings[first]);
+    set.second = record_of(&strings[second]);
+    set.third = record_of(&strings[third]);
+    set.first.satellite = set.second.satellite = set.third.satellite = 51;
+    set.first.time = 43199;
+    set.second.time = 0;
+    set.third.time = 1;
+    return set;
+}
+
+/* Sets that are refused though each record passes. */
+static struct {
+    struct l1oc_set set;
+    uint64_t number;
+} refused_sets[20];
+static size_t set_refusals;
+
+static struct l1oc_set *refuse_set(struct l1oc_set set, uint64_t number)
+{
+    size_t i = set_refusals++;
+
+    refused_sets[i].set = set;
+    refused_sets[i].number = number;
+    return &refused_sets[i].set;
+}
+
+static void make_refused_sets(void)
+{
+    struct l1oc_set *both;
+
+    /* other types: exchanged, one for another, and shorter and longer strings */
+    refuse_set(set_of(1, 0, 2), 12);
+    refuse_set(set_of(0, 2, 1), 12);
+    refuse_set(set_of(0, 0, 2), 12);
+    refuse_set(set_of(0, 1, 3), 12);
+    refuse_set(set_of(6, 1, 2), 12);
+    refuse_set(set_of(7, 1, 2), 12);
+    refuse_set(set_of(0, 6, 2), 12);
+    refuse_set(set_of(0, 7, 2), 12);
+    refuse_set(set_of(0, 1, 6), 12);
+    refuse_set(set_of(0, 1, 7), 12);
+    /* another satellite in each place */
+    refuse_set(set_of(0, 1, 2), 13)->first.satellite = 50;
+    refuse_set(set_of(0, 1, 2), 13)->second.satellite = 52;
+    refuse_set(set_of(0, 1, 2), 13)->third.satellite = 1;
+    /* another OMB in each place */
+    refuse_set(set_of(0, 1, 2), 14)->first.time = 43198;
+    refuse_set(set_of(0, 1, 2), 14)->second.time = 43199;
+    refuse_set(set_of(0, 1, 2), 14)->third.time = 2;
+    /* two at once */
+    refuse_set(set_of(0, 1, 1), 12)->second.satellite = 52;
+    refuse_set(set_of(2, 1, 2), 12)->third.time = 0;
+    both = refuse_set(set_of(0, 1, 2), 13);
+    both->third.satellite = 52;
+    both->second.time = 1;
+}
+
 /* ---- memory ---- */
 
 enum {
@@ -251,7 +353,7 @@ enum {
     GUARD = 11
 };
 
-static uint8_t memory[GUARD + 80 + GUARD];
+static uint8_t memory[GUARD + 100 + GUARD];
 
 /* Lends a copy of some bytes, with junk on both sides. */
 static uint8_t *lend(const uint8_t *bytes, size_t length)
@@ -294,6 +396,16 @@ static struct l1oc_reading read_over_junk(const uint8_t *bytes, size_t length, s
     fill(&reading, JUNK, sizeof reading);
     junk_stack();
     reading = l1oc_read(bytes, length, count, place);
+    return reading;
+}
+
+static struct l1oc_set_reading read_set_over_junk(const uint8_t *bytes, size_t length, size_t count, size_t place)
+{
+    struct l1oc_set_reading reading;
+
+    fill(&reading, JUNK, sizeof reading);
+    junk_stack();
+    reading = l1oc_read_set(bytes, length, count, place);
     return reading;
 }
 
@@ -342,17 +454,6 @@ static void refuses_to_read(const uint8_t *bytes, size_t length, size_t count, s
 
 static void test_read(void)
 {
-    /* strings with j 0, OMB 43200, tb 960, and another orbit */
-    static const struct {
-        const char *bytes;
-        uint64_t number;
-        uint64_t value;
-    } wrong[] = {
-        {"5f1000000000000000000000000000000000000000000000000000000013ad00", 7, 2},
-        {"5f1005002a3000000000000000000000000000000000000000000000002f70c0", 7, 9},
-        {"5f12b3a52a2fcf34ad5e064a137cdecf26563c484a0003ba517521afe841d480", 7, 14},
-        {"5f151805c4006621b6b57fff3ffffeb1101fff3fffc0007fffe7f55555777e40", 8, 10},
-    };
     uint8_t bytes[60];
     uint8_t *lent;
     size_t length;
@@ -426,6 +527,123 @@ static void test_write(void)
     CHECK(answers(l1oc_write(lent, 60, 471, 13, last), 0, 388));
     from_hex(placed, bytes);
     CHECK(left(bytes, 60));
+}
+
+/* A refusal of reading a set: its number and value, and a set that is 0 in every byte. */
+static void refuses_to_read_set(const uint8_t *bytes, size_t length, size_t count, size_t place, uint64_t number, uint64_t value)
+{
+    static struct l1oc_set blank; /* all 0 */
+    struct l1oc_set_reading reading = read_set_over_junk(bytes, length, count, place);
+
+    CHECK(reading.number == number);
+    CHECK(reading.value == value);
+    CHECK(memcmp(&reading.content, &blank, sizeof blank) == 0);
+}
+
+/* Reads the set of the first three strings. */
+static void reads_set(const uint8_t *bytes, size_t length, size_t count, size_t place)
+{
+    struct l1oc_set set = set_of(0, 1, 2);
+    struct l1oc_set_reading reading = read_set_over_junk(bytes, length, count, place);
+
+    CHECK(reading.number == 0);
+    CHECK(reading.value == 0);
+    CHECK(memcmp(&reading.content, &set, sizeof set) == 0);
+}
+
+static void test_read_set(void)
+{
+    uint8_t bytes[120];
+    uint8_t *lent;
+    size_t length;
+    size_t i;
+
+    length = from_hex(set_bytes, bytes);
+    reads_set(lend(bytes, length), length, 750, 0);
+    CHECK(left(bytes, length));
+
+    length = from_hex(placed_set, bytes);
+    lent = lend(bytes, length);
+    reads_set(lent, length, 763, 13);
+    refuses_to_read_set(longest, 65537, 524289, 13, 1, 0);
+    refuses_to_read_set(lent, length, 801, 13, 2, 0);
+    refuses_to_read_set(lent, length, 800, 801, 3, 801);
+    refuses_to_read_set(lent, length, 800, 783, 5, 783); /* 17 bits are left */
+    refuses_to_read_set(lent, length, 800, 12, 4, 12);
+    refuses_to_read_set(lent, length, 800, 263, 4, 763); /* the second string is the first, and no third follows */
+    refuses_to_read_set(lent, length, 262, 13, 5, 13);   /* the first string lacks a bit */
+    refuses_to_read_set(lent, length, 280, 13, 5, 263);  /* 17 bits are left for the second */
+    refuses_to_read_set(lent, length, 762, 13, 5, 513);  /* the third lacks a bit */
+    CHECK(left(bytes, length));
+    lent[95] ^= 0x20; /* the last bit of the third */
+    refuses_to_read_set(lent, length, 800, 13, 6, 513);
+    lent[64] ^= 0x80; /* of the second */
+    refuses_to_read_set(lent, length, 800, 13, 6, 263);
+    lent[32] ^= 0x02; /* of the first */
+    refuses_to_read_set(lent, length, 800, 13, 6, 13);
+    refuses_to_read_set(NULL, 0, 0, 0, 5, 0);
+
+    for (i = 0; i < sizeof wrong / sizeof wrong[0]; i++) {
+        from_hex(wrong[i].bytes, bytes + 32);
+        refuses_to_read_set(bytes, 64, 512, 256, wrong[i].number, wrong[i].value);
+        CHECK(answers(l1oc_write(bytes, 64, 512, 6, record_of(&strings[0])), 0, 256)); /* before it */
+        refuses_to_read_set(bytes, 64, 512, 6, wrong[i].number, wrong[i].value);
+    }
+    for (i = 0; i < set_refusals; i++) {
+        struct l1oc_answer end = l1oc_write(bytes, 120, 960, 5, refused_sets[i].set.first);
+
+        end = l1oc_write(bytes, 120, 960, end.value, refused_sets[i].set.second);
+        end = l1oc_write(bytes, 120, 960, end.value, refused_sets[i].set.third);
+        CHECK(end.number == 0);
+        refuses_to_read_set(bytes, 120, 960, 5, refused_sets[i].number, 0);
+    }
+}
+
+static void test_write_set(void)
+{
+    static uint8_t zeros[100];
+    struct l1oc_set set = set_of(0, 1, 2);
+    struct l1oc_set other;
+    uint8_t before[100];
+    uint8_t bytes[100];
+    uint8_t *lent;
+    size_t length;
+    size_t i;
+
+    length = from_hex(set_bytes, bytes);
+    lent = lend(zeros, length);
+    CHECK(answers(l1oc_write_set(lent, length, 750, 0, set), 0, 750));
+    CHECK(left(bytes, length));
+    reads_set(lent, length, 750, 0);
+
+    memset(before, 0xa5, sizeof before);
+    lent = lend(before, 100);
+    for (i = 0; i < refusals; i++) {
+        other = set;
+        other.third = refused[i].record;
+        CHECK(answers(l1oc_write_set(lent, 100, 762, 13, other), refused[i].number, refused[i].value));
+        other.second = refused[i].record;
+        other.third = refused[(i + 1) % refusals].record;
+        CHECK(answers(l1oc_write_set(lent, 100, 762, 13, other), refused[i].number, refused[i].value));
+        other.first = refused[i].record;
+        other.second = refused[(i + 2) % refusals].record;
+        CHECK(answers(l1oc_write_set(lent, 100, 762, 13, other), refused[i].number, refused[i].value));
+    }
+    for (i = 0; i < set_refusals; i++) {
+        CHECK(answers(l1oc_write_set(lent, 100, 800, 13, refused_sets[i].set), refused_sets[i].number, 0));
+        CHECK(answers(l1oc_write_set(lent, 100, 200, 13, refused_sets[i].set), refused_sets[i].number, 0)); /* before 5 */
+    }
+    CHECK(answers(l1oc_write_set(longest, 65537, 524289, 13, set), 1, 0));
+    CHECK(answers(l1oc_write_set(lent, 100, 801, 13, set), 2, 0));
+    CHECK(answers(l1oc_write_set(lent, 100, 800, 801, set), 3, 801));
+    CHECK(answers(l1oc_write_set(lent, 100, 762, 13, set), 5, 13)); /* it would end at 763 */
+    CHECK(answers(l1oc_write_set(lent, 100, 800, 800, set), 5, 800));
+    CHECK(left(before, 100));
+    CHECK(answers(l1oc_write_set(NULL, 0, 0, 0, set), 5, 0));
+
+    CHECK(answers(l1oc_write_set(lent, 100, 763, 13, set), 0, 763));
+    from_hex(placed_set, bytes);
+    CHECK(left(bytes, 100));
 }
 
 /* Whether the value is this number, value and f64, in every byte. */
@@ -510,6 +728,10 @@ static void longest_recording(void)
     CHECK(reading.number == 0 && memcmp(&reading.content, &record, sizeof record) == 0);
     refuses_to_read(longest, 65537, 524288, 524288, 5, 524288);
     refuses_to_read(longest, 65537, 524289, 524163, 1, 0);
+    CHECK(answers(l1oc_write_set(longest, 65537, 524288, 523538, set_of(0, 1, 2)), 0, 524288));
+    CHECK(answers(l1oc_write_set(longest, 65537, 524289, 523538, set_of(0, 1, 2)), 1, 0));
+    reads_set(longest, 65537, 524288, 523538);
+    refuses_to_read_set(longest, 65537, 524289, 523538, 1, 0);
 
     for (place = 0; place + 125 <= 524288; place += 125) {
         CHECK(answers(l1oc_write(longest, 65537, 524288, place, record), 0, place + 125));
@@ -527,9 +749,12 @@ int main(void)
     layout();
     limits_and_refusals();
     make_refused();
+    make_refused_sets();
     test_list();
     test_read();
     test_write();
+    test_read_set();
+    test_write_set();
     test_scaled();
     test_accuracy();
     test_day_count();
