@@ -4,9 +4,7 @@
  *     cc -std=c99 -Iinclude examples/ephemeris.c target/staticlib/libl1oc.a -o ephemeris
  *     ./ephemeris recording.bin        (or: ./ephemeris <recording.bin)
  */
-#include <inttypes.h>
-#include <stdio.h>
-#include "l1oc.h"
+#include "recording.h"
 
 /* The field that is printed of each type: its number in the record, its name and unit. */
 struct shown {
@@ -52,11 +50,7 @@ static int print_string(const uint8_t *bytes, size_t length, size_t place)
 
 int main(int argc, char **argv)
 {
-    static uint8_t bytes[L1OC_MAX_BYTES + 1]; /* one more, so that a recording that is too long is seen */
-    static uint32_t starts[L1OC_MAX_STARTS];
-    struct l1oc_answer answer;
-    FILE *input = stdin;
-    size_t length;
+    static struct recording recording;
     size_t i;
     int failed = 0;
 
@@ -64,34 +58,10 @@ int main(int argc, char **argv)
         fprintf(stderr, "usage: ephemeris [recording]\n");
         return 2;
     }
-    if (argc == 2) {
-        input = fopen(argv[1], "rb");
-        if (input == NULL) {
-            perror(argv[1]);
-            return 1;
-        }
-    }
-    length = fread(bytes, 1, sizeof bytes, input);
-    if (ferror(input)) {
-        perror("ephemeris: reading the recording");
-        return 1;
-    }
-    if (input != stdin) {
-        fclose(input);
-    }
-
-    answer = l1oc_list(bytes, length, 8 * length, starts, L1OC_MAX_STARTS);
-    if (answer.number == L1OC_TOO_LONG) {
-        fprintf(stderr, "ephemeris: the recording is longer than %d bits\n", L1OC_MAX_BITS);
-        return 1;
-    }
-    if (answer.number != 0) {
-        fprintf(stderr, "ephemeris: listing is refused with %" PRIu64 ", %" PRIu64 "\n", answer.number, answer.value);
-        return 1;
-    }
-    fprintf(stderr, "ephemeris: %" PRIu64 " strings\n", answer.value);
-    for (i = 0; i < answer.value; i++) {
-        failed |= print_string(bytes, length, starts[i]);
+    take_recording(&recording, "ephemeris", argv[1]);
+    fprintf(stderr, "ephemeris: %zu strings\n", recording.strings);
+    for (i = 0; i < recording.strings; i++) {
+        failed |= print_string(recording.bytes, recording.length, recording.starts[i]);
     }
     return failed;
 }
