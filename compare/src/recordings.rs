@@ -5,7 +5,7 @@ mod twister;
 use crate::make;
 use crate::plain::report::report;
 use crate::plain::{self, table, LIMIT};
-use l1oc::Record;
+use l1oc::{Record, NUMBERS};
 use std::fs;
 use std::io;
 use std::path::Path;
@@ -20,6 +20,7 @@ pub fn make(folder: &Path) -> io::Result<()> {
         ("other_orbit", other_orbit(random)),
         ("damaged", damaged(random)),
         ("all_types", all_types(random)),
+        ("sets", sets(random)),
     ] {
         save(folder, name, &text)?;
     }
@@ -169,6 +170,60 @@ fn any(random: &mut Twister, kind: u8) -> String {
 /// A string of each type, end to end.
 fn all_types(random: &mut Twister) -> String {
     (0..64).map(|kind| any(random, kind)).collect()
+}
+
+/// The ephemeris of satellite 24.
+fn ephemeris(kind: u8) -> [i64; NUMBERS] {
+    let fields: &[i64] = match kind {
+        10 => &[
+            8, 1050, 2, 15, 959, 1, 2, 1, 1, -3, 15, -3_567_890, 512, 0, 12, -3,
+        ],
+        11 => &[
+            10_800_857_088,
+            -22_024_421_376,
+            10_355_802_112,
+            1_342_177_280,
+            -640,
+            0,
+            0,
+        ],
+        _ => &[
+            1280,
+            -536_870_912,
+            -2_541_753_434,
+            -512,
+            0,
+            1024,
+            1374,
+            -2748,
+            0,
+        ],
+    };
+    let mut numbers = [0; NUMBERS];
+    numbers[..fields.len()].copy_from_slice(fields);
+    numbers
+}
+
+/// Sets of several satellites, one of which is damaged and comes again; the last is cut off.
+fn sets(random: &mut Twister) -> String {
+    let almanac = [(20, 9)];
+    let set = |satellite| [10, 11, 12].map(|kind| (kind, satellite));
+    let strings = [&set(5)[..], &almanac, &set(24), &set(11), &set(24), &set(7)].concat();
+    let mut text = random_bits(random, 45);
+    for (place, (kind, satellite)) in strings.into_iter().enumerate() {
+        let record = service(kind, satellite, (43189 + place as u64) % 43200);
+        text += &match satellite {
+            24 => make::string_of(&Record {
+                numbers: ephemeris(kind),
+                ..record
+            }),
+            _ => string(record, &information(random, kind)),
+        };
+    }
+    // In the second string of satellite 24's first set.
+    text = make::turn(&text, 45 + 5 * 250 + 90, "1011");
+    text.truncate(text.len() - 100);
+    text
 }
 
 /// Strings of the types that come, and the shortest where no other fits, end to end to within 125 bits of the limit.
