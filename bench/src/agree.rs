@@ -1,10 +1,10 @@
 //! That both sides give the same answers and leave the same memory, before they are measured.
-use crate::input::{self, Hour, Numbers, HOUR_BITS};
+use crate::input::{self, Hour, Numbers, Sets, HOUR_BITS, SETS_BITS};
 use crate::sides::{Library, Peer, Side};
-use l1oc::{Record, MAX_BITS, MAX_STARTS, NUMBERS, RAW_BYTES};
+use l1oc::{Record, Set, MAX_BITS, MAX_STARTS, NUMBERS, RAW_BYTES, SET_BITS};
 
 /// Compares both sides on the inputs, on damaged ones and at the limits. Stops at the first difference.
-pub fn check(hour: &Hour, noise: &[u8]) {
+pub fn check(hour: &Hour, sets: &Sets, noise: &[u8]) {
     lists(&hour.bytes, HOUR_BITS);
     lists(noise, 8 * noise.len());
     for (&start, record) in hour.starts.iter().zip(&hour.records) {
@@ -16,6 +16,7 @@ pub fn check(hour: &Hour, noise: &[u8]) {
     writes_hour(hour);
     damaged(hour);
     limits(noise);
+    check_sets(hour, sets);
     let mut numbers = Numbers::new(3);
     for _ in 0..20 {
         for kind in 0..64 {
@@ -53,6 +54,83 @@ fn writes(bytes: &[u8], count: usize, place: usize, record: &Record) -> (u64, Ve
     assert_eq!(answer, other, "write {place} {record:?}");
     assert_eq!(a, b, "write {place} {record:?}");
     (answer.number, a)
+}
+
+fn reads_set(bytes: &[u8], count: usize, place: usize) -> (u64, Set) {
+    let reading = Library::read_set(bytes, count, place);
+    let other = Peer::read_set(bytes, count, place);
+    assert_eq!(reading, other, "read a set {place}");
+    (reading.number, reading.content)
+}
+
+fn writes_set(bytes: &[u8], count: usize, place: usize, set: &Set) -> (u64, Vec<u8>) {
+    let (mut a, mut b) = (bytes.to_vec(), bytes.to_vec());
+    let answer = Library::write_set(&mut a, count, place, *set);
+    let other = Peer::write_set(&mut b, count, place, *set);
+    assert_eq!(answer, other, "write a set {place} {set:?}");
+    assert_eq!(a, b, "write a set {place} {set:?}");
+    (answer.number, a)
+}
+
+/// The sets; strings that make no set; sets that are damaged, cut or spoilt.
+fn check_sets(hour: &Hour, sets: &Sets) {
+    for (&start, set) in sets.starts.iter().zip(&sets.sets) {
+        assert_eq!(reads_set(&sets.bytes, SETS_BITS, start), (0, *set));
+    }
+    for &start in &hour.starts {
+        reads_set(&hour.bytes, HOUR_BITS, start);
+    }
+    let mut numbers = Numbers::new(7);
+    for bit in 0..SET_BITS {
+        let (at, count) = (bit % 200, 960);
+        let bytes: Vec<u8> = (0..120).map(|_| numbers.next() as u8).collect();
+        let set = input::random_set(&mut numbers);
+        let (number, mut written) = writes_set(&bytes, count, at, &set);
+        assert_eq!(number, 0);
+        assert_eq!(reads_set(&written, count, at), (0, set));
+        let cut = at + numbers.within(0, SET_BITS as i64 - 1) as usize;
+        reads_set(&written, cut, at);
+        writes_set(&bytes, cut, at, &set);
+        for _ in 0..10 {
+            let spoilt = spoil_set(&mut numbers, set);
+            writes_set(&bytes, count, at, &spoilt);
+            writes_set(&bytes, cut, at, &spoilt);
+            let (mut strings, mut next) = (bytes.clone(), at);
+            for r in [spoilt.first, spoilt.second, spoilt.third] {
+                let answer = Peer::write(&mut strings, count, next, r);
+                if answer.number != 0 {
+                    break;
+                }
+                next = answer.value as usize;
+            }
+            reads_set(&strings, count, at);
+        }
+        written[(at + bit) / 8] ^= 0x80 >> ((at + bit) % 8);
+        reads_set(&written, count, at);
+    }
+}
+
+/// A set with a record changed, or of another type, satellite or time.
+fn spoil_set(numbers: &mut Numbers, mut set: Set) -> Set {
+    let r = match numbers.within(0, 2) {
+        0 => &mut set.first,
+        1 => &mut set.second,
+        _ => &mut set.third,
+    };
+    let kind = numbers.within(0, 63) as u8;
+    match numbers.within(0, 3) {
+        0 => *r = spoil(numbers, *r),
+        1 => {
+            *r = Record {
+                satellite: r.satellite,
+                time: r.time,
+                ..input::random_record(numbers, kind)
+            }
+        }
+        2 => r.satellite = numbers.within(1, 63) as u8,
+        _ => r.time = numbers.within(0, 43_199) as u64,
+    }
+    set
 }
 
 /// Writes the hour over ones, string by string.

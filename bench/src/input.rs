@@ -1,9 +1,15 @@
-//! The inputs, from fixed seeds: an hour of strings, and noise.
+//! The inputs, from fixed seeds: an hour of strings, an hour of sets, and noise.
 use crate::peer::{self, layout};
-use l1oc::{Record, MAX_BITS};
+use l1oc::{Record, Set, MAX_BITS, SET_BITS};
 
 /// An hour and its leap second at 125 bit/s.
 pub const HOUR_BITS: usize = 450_125;
+
+/// Sets of an hour.
+const SETS: usize = 600;
+
+/// The bits of an hour of sets.
+pub const SETS_BITS: usize = SETS * SET_BITS;
 
 /// The bytes of the noise.
 pub const NOISE_BYTES: usize = MAX_BITS / 8;
@@ -66,6 +72,30 @@ pub fn hour() -> Hour {
     }
 }
 
+/// A recording with its sets.
+pub struct Sets {
+    pub bytes: Vec<u8>,
+    pub starts: Vec<usize>,
+    pub sets: Vec<Set>,
+}
+
+/// Sets end to end.
+pub fn sets() -> Sets {
+    let mut numbers = Numbers::new(6);
+    let mut bytes = vec![0; SETS_BITS.div_ceil(8)];
+    let starts: Vec<usize> = (0..SETS).map(|i| SET_BITS * i).collect();
+    let sets: Vec<Set> = starts.iter().map(|_| random_set(&mut numbers)).collect();
+    for (&start, set) in starts.iter().zip(&sets) {
+        let answer = peer::write_set(&mut bytes, SETS_BITS, start, set);
+        assert_eq!(answer.number, 0, "the set at {start} is refused");
+    }
+    Sets {
+        bytes,
+        starts,
+        sets,
+    }
+}
+
 /// Random bytes.
 pub fn noise() -> Vec<u8> {
     let mut numbers = Numbers::new(2);
@@ -81,6 +111,24 @@ fn common_type(numbers: &mut Numbers) -> u8 {
     match TYPES[numbers.within(0, 19) as usize] {
         0 => [0, 16, 31, 32, 50, 60][numbers.within(0, 5) as usize],
         kind => kind,
+    }
+}
+
+/// A set that can be written.
+pub fn random_set(numbers: &mut Numbers) -> Set {
+    let satellite = numbers.within(1, 63) as u8;
+    // Now and then it goes to 0 in the set.
+    let least = if numbers.within(0, 9) == 0 { 43_197 } else { 0 };
+    let time = numbers.within(least, 43_199) as u64;
+    let mut record = |step: u8| Record {
+        satellite,
+        time: (time + u64::from(step)) % 43_200,
+        ..random_record(numbers, 10 + step)
+    };
+    Set {
+        first: record(0),
+        second: record(1),
+        third: record(2),
     }
 }
 

@@ -22,7 +22,7 @@ fn main() {
 /// Compares both sides, then prints the table.
 fn table() {
     let mut bench = inputs();
-    agree::check(&bench.hour, &bench.noise);
+    agree::check(&bench.hour, &bench.sets, &bench.noise);
     println!("library and peer agree");
     bench.table();
 }
@@ -47,6 +47,7 @@ fn inputs() -> Bench {
     Bench {
         list: vec![0; l1oc::MAX_STARTS],
         buffer: vec![0; hour.bytes.len()],
+        sets: input::sets(),
         noise: input::noise(),
         hour,
     }

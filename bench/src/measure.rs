@@ -1,5 +1,5 @@
 //! The rows of the table: what is timed, in rounds that alternate between the sides.
-use crate::input::{Hour, HOUR_BITS};
+use crate::input::{Hour, Sets, HOUR_BITS, SETS_BITS};
 use crate::sides::{Library, Peer, Side};
 use std::hint::black_box;
 
@@ -14,11 +14,19 @@ extern "C" {
 }
 
 /// The names of the rows.
-pub const ROWS: [&str; 4] = ["list-hour", "list-noise", "read-hour", "write-hour"];
+pub const ROWS: [&str; 6] = [
+    "list-hour",
+    "list-noise",
+    "read-hour",
+    "write-hour",
+    "read-sets",
+    "write-sets",
+];
 
 /// What the rows work on.
 pub struct Bench {
     pub hour: Hour,
+    pub sets: Sets,
     pub noise: Vec<u8>,
     pub list: Vec<u32>,
     pub buffer: Vec<u8>,
@@ -32,7 +40,9 @@ impl Bench {
                 0 => self.list::<S>(true),
                 1 => self.list::<S>(false),
                 2 => self.read::<S>(),
-                _ => self.write::<S>(),
+                3 => self.write::<S>(),
+                4 => self.read_sets::<S>(),
+                _ => self.write_sets::<S>(),
             }
         }
     }
@@ -57,6 +67,19 @@ impl Bench {
         let buffer = black_box(&mut self.buffer);
         for (&start, record) in self.hour.starts.iter().zip(&self.hour.records) {
             black_box(S::write(buffer, HOUR_BITS, start, *record));
+        }
+    }
+
+    fn read_sets<S: Side>(&mut self) {
+        for &start in &self.sets.starts {
+            black_box(&S::read_set(&self.sets.bytes, SETS_BITS, start));
+        }
+    }
+
+    fn write_sets<S: Side>(&mut self) {
+        let buffer = black_box(&mut self.buffer);
+        for (&start, set) in self.sets.starts.iter().zip(&self.sets.sets) {
+            black_box(S::write_set(buffer, SETS_BITS, start, *set));
         }
     }
 

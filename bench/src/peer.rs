@@ -5,10 +5,12 @@ pub mod layout;
 mod read;
 mod refusals;
 mod search;
+mod set;
 mod write;
 
 pub use read::read;
 pub use search::list;
+pub use set::{read_set, write_set};
 pub use write::write;
 
 use l1oc::refusal::{BEYOND_BYTES, BEYOND_COUNT, TOO_LONG};

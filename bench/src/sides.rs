@@ -1,12 +1,14 @@
-//! Both sides behind one interface. Each call crosses the C interface, with the record by value.
+//! Both sides behind one interface. Each call crosses the C interface, with the record or set by value.
 use crate::peer;
-use l1oc::{Answer, Reading, Record};
+use l1oc::{Answer, Reading, Record, Set, SetReading};
 
 /// A codec that is measured.
 pub trait Side {
     fn list(bytes: &[u8], count: usize, list: &mut [u32]) -> Answer;
     fn read(bytes: &[u8], count: usize, place: usize) -> Reading;
     fn write(bytes: &mut [u8], count: usize, place: usize, content: Record) -> Answer;
+    fn read_set(bytes: &[u8], count: usize, place: usize) -> SetReading;
+    fn write_set(bytes: &mut [u8], count: usize, place: usize, content: Set) -> Answer;
 }
 
 /// The proved library.
@@ -30,6 +32,16 @@ impl Side for Library {
     fn write(bytes: &mut [u8], count: usize, place: usize, content: Record) -> Answer {
         l1oc::write(bytes, count, place, content)
     }
+
+    #[inline(always)]
+    fn read_set(bytes: &[u8], count: usize, place: usize) -> SetReading {
+        l1oc::read_set(bytes, count, place)
+    }
+
+    #[inline(always)]
+    fn write_set(bytes: &mut [u8], count: usize, place: usize, content: Set) -> Answer {
+        l1oc::write_set(bytes, count, place, content)
+    }
 }
 
 // The calling convention of the library. A slice is passed as its pointer and its length.
@@ -51,6 +63,18 @@ extern "C" fn peer_write(bytes: &mut [u8], count: usize, place: usize, content: 
     peer::write(bytes, count, place, &content)
 }
 
+#[inline(never)]
+#[allow(improper_ctypes_definitions)]
+extern "C" fn peer_read_set(bytes: &[u8], count: usize, place: usize) -> SetReading {
+    peer::read_set(bytes, count, place)
+}
+
+#[inline(never)]
+#[allow(improper_ctypes_definitions)]
+extern "C" fn peer_write_set(bytes: &mut [u8], count: usize, place: usize, content: Set) -> Answer {
+    peer::write_set(bytes, count, place, &content)
+}
+
 impl Side for Peer {
     #[inline(always)]
     fn list(bytes: &[u8], count: usize, list: &mut [u32]) -> Answer {
@@ -65,5 +89,15 @@ impl Side for Peer {
     #[inline(always)]
     fn write(bytes: &mut [u8], count: usize, place: usize, content: Record) -> Answer {
         peer_write(bytes, count, place, content)
+    }
+
+    #[inline(always)]
+    fn read_set(bytes: &[u8], count: usize, place: usize) -> SetReading {
+        peer_read_set(bytes, count, place)
+    }
+
+    #[inline(always)]
+    fn write_set(bytes: &mut [u8], count: usize, place: usize, content: Set) -> Answer {
+        peer_write_set(bytes, count, place, content)
     }
 }

@@ -10,16 +10,21 @@ pub fn read(bytes: &[u8], count: usize, place: usize) -> Reading {
         value: 0,
         content: Record::BLANK,
     };
-    let done = string_tests(bytes, count, place)
-        .and_then(|kind| decode(bytes, place, kind, &mut reading.content));
-    match done {
-        Ok(()) => reading,
+    match fill(bytes, count, place, &mut reading.content) {
+        Ok(_) => reading,
         Err(Answer { number, value }) => Reading {
             number,
             value,
             content: Record::BLANK,
         },
     }
+}
+
+/// Fills a blank record from the string at a place; then the place after it.
+pub fn fill(bytes: &[u8], count: usize, place: usize, r: &mut Record) -> Result<usize, Answer> {
+    let kind = string_tests(bytes, count, place)?;
+    decode(bytes, place, kind, r)?;
+    Ok(place + layout::length(kind))
 }
 
 /// Tests 1, 2, 3, 5, 4, 5, 6; then the type of the string.

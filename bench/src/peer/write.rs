@@ -16,10 +16,15 @@ fn write_string(bytes: &mut [u8], count: usize, place: usize, r: &Record) -> Res
     place_tests(bytes, count, place)?;
     let fields = layout::fields_of(r.kind);
     refusals::record_tests(r, fields)?;
-    let length = layout::length(r.kind);
-    if count - place < length {
+    if count - place < layout::length(r.kind) {
         return Err(answer(RUNS_OUT, place));
     }
+    Ok(put(bytes, place, r, fields))
+}
+
+/// Puts the string of a record that passes; then the place after it.
+pub fn put(bytes: &mut [u8], place: usize, r: &Record, fields: &[layout::Field]) -> usize {
+    let length = layout::length(r.kind);
     let (offset, end) = (place % 8, place + length);
     let mut string = encode(offset, r, fields);
     add_check(&mut string, offset + length, r.kind);
@@ -29,7 +34,7 @@ fn write_string(bytes: &mut [u8], count: usize, place: usize, r: &Record) -> Res
         offset,
         end,
     );
-    Ok(end)
+    end
 }
 
 /// The bits of a record's string before its check bits, after `offset` zeros.
