@@ -25,7 +25,6 @@ use Rattle.types.proofs.Table.{wide, all-wide, width-tells, width-at, sign-at}
 use Rattle.types.specs.declared.rows.Row.{Row}
 use Rattle.types.specs.Rows.{Describes}
 use Rattle.fields.specs.Decoded.{numberOf, markBit, Decoded}
-use Rattle.fields.specs.declared.Numbers.{Numbers}
 
 -- ---- one field
 bits-here : (w : ℕ) (u : List Bool) (at x : ℕ) → at + w ≤ length u → x ≡ number (cut at w u) → bits w x ≡ cut at w u

@@ -9,7 +9,7 @@ use lib.Arith.{digits-lt}
 use lib.Bits.{bitOr, or-shifted}
 use lib.ListN.{length}
 use lib.Pow.{shl-exact, pow-add, high, low}
-use Rattle.bits.specs.Bits.{number, bits, put}
+use Rattle.bits.specs.Bits.{bits, put}
 use Rattle.bits.proofs.Lists.{put-none, put-join}
 use Rattle.bits.proofs.Numbers.{length-bits, bits-append, bits-mod}
 use Rattle.format.specs.Fields.{widest}

@@ -151,7 +151,7 @@ module _ (bytes : List ℕ) (count place : ℕ) where
   pub set-exact : (s : Set) → (setReading bytes count place ≡ record { answer = Passed; content = s }) ↔ SetThere bytes count place s
   set-exact s = (read-there s, there-read s)
 
--- ---- only the bytes that the strings cover, up to the first that is refused
+-- ---- only the bytes that the strings cover, up to and with the first that is refused
 
 -- a refusal comes before all that follows it
 skip : (a x y : Answer) (s t : Set) → (a ≡ Passed → besideSet x s ≡ besideSet y t) → besideSet (a then x) s ≡ besideSet (a then y) t

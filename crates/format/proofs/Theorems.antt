@@ -125,7 +125,7 @@ pub reading-covered : (bytes others : List ℕ) (count place : ℕ) → length o
     → reading others count place ≡ reading bytes count place
 reading-covered = Covered.reading-covered
 
--- The same of a set, whose strings are read up to the first that is refused.
+-- The same of a set, of which the strings up to and with the first that is refused count.
 pub set-covered : (bytes others : List ℕ) (count place : ℕ) → length others ≡ length bytes → SameThere others bytes count place
     → (reading bytes count place .answer ≡ Passed → SameThere others bytes count (secondPlace bytes count place))
     → (reading bytes count place .answer ≡ Passed → reading bytes count (secondPlace bytes count place) .answer ≡ Passed
