@@ -5,6 +5,7 @@ use Prim.Native.Nat.{ℕ, _+_, _*_, _≤_}
 use native.Mathlib.Numerals.{add-one}
 use native.Mathlib.Omega.{arith}
 use lib.ListN.{length, length-append}
+use Rattle.bits.specs.declared.Phase.the-variants.{Straight}
 use Rattle.format.specs.Answers.{answerCode}
 use Rattle.format.specs.Reading.{reading}
 use Rattle.text.specs.Text.{numeral, row, comma, newline, numberMost, Wrote}
@@ -19,7 +20,7 @@ number-length n end w = omega (arith, w .placed, length-append (numeral n) (end 
 
 -- The count and reading's number are the line.
 pub line-wrote : (bytes : List ℕ) (count : ℕ) {code at place next : ℕ} {before mid after : List ℕ}
-    → code ≡ answerCode (reading bytes count 0 .answer) .0
+    → code ≡ answerCode (reading Straight bytes count 0 .answer) .0
     → Wrote (numeral count ++ (comma ∷ [])) at before mid place → Wrote (numeral code ++ (newline ∷ [])) place mid after next
     → next ≤ length before → Wrote (countLine bytes count) at before after next
 unfolding countLine row
@@ -35,7 +36,7 @@ pub record LinesSoFar (bytes before : List ℕ) (count : ℕ) (out : List ℕ) (
 
 cut-length : (bytes : List ℕ) (count : ℕ) → length (countLine bytes count) ≤ cutMost
 unfolding countLine
-cut-length bytes count = row-length (count ∷ answerCode (reading bytes count 0 .answer) .0 ∷ []) .1
+cut-length bytes count = row-length (count ∷ answerCode (reading Straight bytes count 0 .answer) .0 ∷ []) .1
 
 module _ (bytes before : List ℕ) where
   pub lines-none : LinesSoFar bytes before 0 before 0

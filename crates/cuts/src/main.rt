@@ -1,5 +1,6 @@
 // Document 01's plain example 12: reads the string at the start of its standard input with every bit count up to its length, and prints
 // each count with reading's number.
+use bits::Phase;
 ghost use Prim.Native.Nat.{_+_, _*_, _≤_, _<_};
 ghost use lib.ListN.{length};
 ghost use Rattle.text.specs.Text.{Wrote};
@@ -16,7 +17,7 @@ fn put_cut(rec: &[u8], count: usize, out: &mut [u8], at: usize) -> usize
     requires { ⌜ (count < counts) × (at + cutMost ≤ length (now out)) ⌝ }
     ensures { λ r. ⌜ Wrote (countLine (now (rec .entry)) count) at (now (out .entry)) (now (out .exit)) r ⌝ }
 {
-    let reading = reading::read(rec, count, 0);
+    let reading = reading::read(rec, count, Phase::Straight, 0);
     let answer = reading.answer;
     let number = answers::answer_number(answer);
     let next = text::put_number(out, at, count as u32, b',');

@@ -1,4 +1,5 @@
 // A type's information fields: their bits fetched as numbers, and numbers put as their bits.
+use bits::Phase;
 use format::Mark;
 use format::PLACES;
 ghost use mathlib.Core.Path.{_≡_};
@@ -6,7 +7,7 @@ ghost use mathlib.Core.Bool.{true, false};
 ghost use Prim.Native.Nat.{_+_, _*_, _-_, _^_, _<_, _≤_};
 ghost use lib.IntN.{pos, natAbs};
 ghost use lib.ListN.{length, drop};
-ghost use Rattle.bits.specs.Bits.{number, bits, unpack, put};
+ghost use Rattle.bits.specs.Bits.{number, bits, unpack, trueBits, put};
 ghost use Rattle.format.specs.Fields.{widest, total, codes};
 ghost use Rattle.format.specs.Records.{markBits};
 ghost use Rattle.format.specs.Types.{markWidth, placesOf};
@@ -45,9 +46,9 @@ fn mark_bit(signed: bool, width: usize, x: u64, i: usize) -> Mark
 
 // The numbers of a type's information fields, whose bits begin at the place `from` of the part and end before the place `to`. Past the
 // last field all numbers are 0.
-pub fn numbers_at(part: &[u8], from: usize, to: usize, kind: u8) -> Numbers
+pub fn numbers_at(part: &[u8], phase: Phase, from: usize, to: usize, kind: u8) -> Numbers
     requires { ⌜ (to ≡ from + total (placesOf kind)) × (to ≤ 8 * length (now part)) ⌝ }
-    ensures { λ r. ⌜ Decoded kind (drop from (unpack (now (part .entry)))) r ⌝ }
+    ensures { λ r. ⌜ Decoded kind (drop from (trueBits phase (now (part .entry)))) r ⌝ }
 {
     let widths = types::widths_of(kind);
     let row = types::row_of(kind);
@@ -59,7 +60,7 @@ pub fn numbers_at(part: &[u8], from: usize, to: usize, kind: u8) -> Numbers
     while at < to {
         let width = widths[i] as usize;
         let signed = signs[i];
-        let x = bits::field(part, at, width);
+        let x = bits::field(part, phase, at, width);
         numbers[i] = number_of(signed, width, x);
         minus += mark_bit(signed, width, x, i);
         at += width;

@@ -6,9 +6,10 @@ use Prim.Native.Nat.{ℕ, _+_, _-_, _*_, _/_, _%_, _≤_}
 use native.Mathlib.Omega.{arith}
 use lib.ListN.{length, take, drop}
 use borrow.Author.Tests.{ltb-false}
-use Rattle.bits.specs.Bits.{number, unpack, recorded, cut, bytesFor, coveredBytes}
+use Rattle.bits.specs.declared.Phase.{Phase}
+use Rattle.bits.specs.Bits.{number, trueBits, recorded, cut, bytesFor, coveredBytes}
 use Rattle.bits.specs.Signed.{allZero}
-use Rattle.bits.proofs.Bytes.{length-recorded, cut-recorded, cut-part, part-bits}
+use Rattle.bits.proofs.Phases.{length-recorded, cut-recorded, cut-part, part-bits}
 use Rattle.cyclic.specs.Register.{remainder}
 use Rattle.format.specs.declared.Answer.{Answer}
 use Rattle.format.specs.declared.Answer.the-variants.{Passed, Refused}
@@ -74,11 +75,11 @@ module _ (u v : List Bool) (p o : ℕ) (same : (a n : ℕ) → a + n ≤ lengthO
       (same-bits 1 (lengthOf (typeAt u p)) (omega arith) (omega arith) (omega arith))
 
 -- ---- the bytes that a string covers give its bits
-module _ (s : List ℕ) (n p long : ℕ) (k : p + long ≤ n) (e : long ≡ lengthOf (typeAt (recorded s n) p)) where
-  pub covers : (a m : ℕ) → a + m ≤ lengthOf (typeAt (recorded s n) p)
-      → cut (p % 8 + a) m (unpack (take ((p + long + 7) / 8 - p / 8) (drop (p / 8) s))) ≡ cut (p + a) m (recorded s n)
+module _ (φ : Phase) (s : List ℕ) (n p long : ℕ) (k : p + long ≤ n) (e : long ≡ lengthOf (typeAt (recorded φ s n) p)) where
+  pub covers : (a m : ℕ) → a + m ≤ lengthOf (typeAt (recorded φ s n) p)
+      → cut (p % 8 + a) m (trueBits φ (take ((p + long + 7) / 8 - p / 8) (drop (p / 8) s))) ≡ cut (p + a) m (recorded φ s n)
   covers a m l =
-      part-bits s p long a m (p + a) refl (omega arith) ∙ sym (cut-recorded (p + a) m n s (omega arith))
+      part-bits s p long φ a m (p + a) refl (omega arith) ∙ sym (cut-recorded φ (p + a) m n s (omega arith))
 
 -- ---- tests of which only those count that are reached
 then-same : (a : Answer) {x y : Answer} → (a ≡ Passed → x ≡ y) → (a then x) ≡ (a then y)
@@ -106,12 +107,12 @@ length-same Passed i j h = h refl
 length-same (Refused r) i j h = refl
 
 -- ---- two recordings of one length that agree on the bytes that the string at a place of the first covers
-module _ (s t : List ℕ) (n p : ℕ) (lengths : length t ≡ length s) (agree : SameThere t s n p) where
+module _ (φ : Phase) (s t : List ℕ) (n p : ℕ) (lengths : length t ≡ length s) (agree : SameThere φ t s n p) where
   abbrev u : List Bool
-  u = recorded s n
+  u = recorded φ s n
 
   abbrev v : List Bool
-  v = recorded t n
+  v = recorded φ t n
 
   abbrev long : ℕ
   long = lengthOf (typeAt u p)
@@ -121,16 +122,16 @@ module _ (s t : List ℕ) (n p : ℕ) (lengths : length t ≡ length s) (agree :
   agree-bits q m a b c =
       let k = bytesFor (p % 8 + long) in
       let o = p % 8 + (q - p) in
-      cut-recorded q m n t c ∙ sym (cut-part (p / 8) k o m q t (omega arith) (omega arith))
-      ∙ ap (λ (x : List ℕ). cut o m (unpack x)) agree
-      ∙ cut-part (p / 8) k o m q s (omega arith) (omega arith) ∙ sym (cut-recorded q m n s c)
+      cut-recorded φ q m n t c ∙ sym (cut-part φ (p / 8) k o m q t (omega arith) (omega arith))
+      ∙ ap (λ (x : List ℕ). cut o m (trueBits φ x)) agree
+      ∙ cut-part φ (p / 8) k o m q s (omega arith) (omega arith) ∙ sym (cut-recorded φ q m n s c)
 
   module _ (inside : n ≤ 8 * length s) where
     size-u : length u ≡ n
-    size-u = length-recorded s n inside
+    size-u = length-recorded φ s n inside
 
     size : length v ≡ length u
-    size = length-recorded t n (omega arith) ∙ sym size-u
+    size = length-recorded φ t n (omega arith) ∙ sym size-u
 
     -- the first 18 bits
     module _ (head : p + 18 ≤ n) where
@@ -183,7 +184,7 @@ module _ (s t : List ℕ) (n p : ℕ) (lengths : length t ≡ length s) (agree :
         ∙ length-same (stringTests u p) (lengthOf (typeAt v p)) long (λ e. ap lengthOf (same-type u v p p (whole (passed-fits e))))
 
   -- What reading gives at the place is the same.
-  pub reading-covered : reading t n p ≡ reading s n p
+  pub reading-covered : reading φ t n p ≡ reading φ s n p
   unfolding reading
   reading-covered =
       let q = placeTests (length s) n p in

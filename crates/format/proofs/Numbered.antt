@@ -7,6 +7,7 @@ use lib.Dec.{eqb}
 use lib.Ieee.{Float}
 use lib.IntN.{ℤ, pos}
 use lib.ListN.{length, getD}
+use Rattle.bits.specs.declared.Phase.{Phase}
 use Rattle.bits.specs.Bits.{recorded}
 use Rattle.format.specs.declared.Answer.{Answer}
 use Rattle.format.specs.declared.Answer.the-variants.{Passed, Refused}
@@ -167,15 +168,15 @@ pub list-numbered : (bytes count room found : ℕ)
 unfolding listAnswer
 list-numbered bytes count room found = giving-returned (tells-then (count-tells bytes count) (tells-when _ _)) found
 
-read-tells : (bytes : List ℕ) (count place : ℕ) → Tells (reading bytes count place .answer) (readLines bytes count place)
+read-tells : (φ : Phase) (bytes : List ℕ) (count place : ℕ) → Tells (reading φ bytes count place .answer) (readLines φ bytes count place)
 unfolding reading
-read-tells bytes count place =
-    let u = recorded bytes count in
+read-tells φ bytes count place =
+    let u = recorded φ bytes count in
     tells-then (place-tells (length bytes) count place) (tells-then (string-tells u place) (field-tells (recordAt u place)))
 
-pub read-numbered : (bytes : List ℕ) (count place : ℕ)
-    → answerCode (reading bytes count place .answer) ≡ readReturned bytes count place
-read-numbered bytes count place = read-tells bytes count place .code
+pub read-numbered : (φ : Phase) (bytes : List ℕ) (count place : ℕ)
+    → answerCode (reading φ bytes count place .answer) ≡ readReturned φ bytes count place
+read-numbered φ bytes count place = read-tells φ bytes count place .code
 
 pub write-numbered : (bytes count place : ℕ) (r : Record)
     → outcomeCode (writing bytes count place r) ≡ writeReturned bytes count place r
@@ -188,13 +189,13 @@ set-tells : (s : Set) → Tells (setTests s) (setLines s)
 unfolding setTests
 set-tells s = tells-then (tells-when (otherTypes s) _) (tells-then (tells-when (otherSatellites s) _) (tells-when (otherTimes s) _))
 
-pub set-read-numbered : (bytes : List ℕ) (count place : ℕ)
-    → answerCode (setReading bytes count place .answer) ≡ setReadReturned bytes count place
+pub set-read-numbered : (φ : Phase) (bytes : List ℕ) (count place : ℕ)
+    → answerCode (setReading φ bytes count place .answer) ≡ setReadReturned φ bytes count place
 unfolding setReading
-set-read-numbered bytes count place =
-    tells-then (read-tells bytes count place)
-    (tells-then (read-tells bytes count (secondPlace bytes count place))
-    (tells-then (read-tells bytes count (thirdPlace bytes count place)) (set-tells (setAt bytes count place)))) .code
+set-read-numbered φ bytes count place =
+    tells-then (read-tells φ bytes count place)
+    (tells-then (read-tells φ bytes count (secondPlace φ bytes count place))
+    (tells-then (read-tells φ bytes count (thirdPlace φ bytes count place)) (set-tells (setAt φ bytes count place)))) .code
 
 pub set-write-numbered : (bytes count place : ℕ) (s : Set)
     → outcomeCode (setWriting bytes count place s) ≡ setWriteReturned bytes count place s

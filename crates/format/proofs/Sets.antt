@@ -10,6 +10,8 @@ use lib.Dec.{eqb}
 use lib.ListN.{length, length-append, getD, take, drop}
 use lib.Seq.{take-at, drop-at, drop-drop}
 use borrow.Author.Tests.{ltb-false, lt-ltb, le-ltb, not-false, eqb-true, eq-eqb}
+use Rattle.bits.specs.declared.Phase.{Phase}
+use Rattle.bits.specs.declared.Phase.the-variants.{Straight}
 use Rattle.bits.specs.Bits.{recorded, cut}
 use Rattle.bits.proofs.Lists.{cut-whole, cut-split}
 use Rattle.format.specs.declared.Answer.{Answer}
@@ -95,60 +97,60 @@ as-read r e = λ i. record { answer = e i; content = r .content }
 beside-set : (a : Answer) (s : Set) → a ≡ Passed → besideSet a s ≡ record { answer = Passed; content = s }
 beside-set a s e = ap (λ (x : Answer). besideSet x s) e
 
-module _ (bytes : List ℕ) (count place : ℕ) where
-  module _ (s : Set) (e : setReading bytes count place ≡ record { answer = Passed; content = s }) where
-    answers : (reading bytes count place .answer ≡ Passed)
-        × (reading bytes count (secondPlace bytes count place) .answer ≡ Passed)
-        × (reading bytes count (thirdPlace bytes count place) .answer ≡ Passed)
-        × (setTests (setAt bytes count place) ≡ Passed)
+module _ (φ : Phase) (bytes : List ℕ) (count place : ℕ) where
+  module _ (s : Set) (e : setReading φ bytes count place ≡ record { answer = Passed; content = s }) where
+    answers : (reading φ bytes count place .answer ≡ Passed)
+        × (reading φ bytes count (secondPlace φ bytes count place) .answer ≡ Passed)
+        × (reading φ bytes count (thirdPlace φ bytes count place) .answer ≡ Passed)
+        × (setTests (setAt φ bytes count place) ≡ Passed)
     unfolding setReading
     answers =
-        let a = then-pass (reading bytes count place .answer) _ (ap (λ (x : SetReading). x .answer) e) in
-        let b = then-pass (reading bytes count (secondPlace bytes count place) .answer) _ (a .1) in
-        let c = then-pass (reading bytes count (thirdPlace bytes count place) .answer) _ (b .1) in
+        let a = then-pass (reading φ bytes count place .answer) _ (ap (λ (x : SetReading). x .answer) e) in
+        let b = then-pass (reading φ bytes count (secondPlace φ bytes count place) .answer) _ (a .1) in
+        let c = then-pass (reading φ bytes count (thirdPlace φ bytes count place) .answer) _ (b .1) in
         (a .0, b .0, c .0, c .1)
 
-    content : setAt bytes count place ≡ s
+    content : setAt φ bytes count place ≡ s
     unfolding setReading
     content =
-        ap (λ (x : SetReading). x .content) (sym (beside-set _ (setAt bytes count place) (ap (λ (x : SetReading). x .answer) e)) ∙ e)
+        ap (λ (x : SetReading). x .content) (sym (beside-set _ (setAt φ bytes count place) (ap (λ (x : SetReading). x .answer) e)) ∙ e)
 
-    read-there : SetThere bytes count place s
+    read-there : SetThere φ bytes count place s
     read-there =
-        let t = set-passes (setAt bytes count place) .0 (answers .3) in
-        let l = lengths (setAt bytes count place) t in
-        let p₂ : secondPlace bytes count place ≡ place + 250 = omega (arith, l .0) in
-        let p₃ : thirdPlace bytes count place ≡ place + 500 = omega (arith, l .0, l .1) in
+        let t = set-passes (setAt φ bytes count place) .0 (answers .3) in
+        let l = lengths (setAt φ bytes count place) t in
+        let p₂ : secondPlace φ bytes count place ≡ place + 250 = omega (arith, l .0) in
+        let p₃ : thirdPlace φ bytes count place ≡ place + 500 = omega (arith, l .0, l .1) in
         record {
           first = as-read _ (answers .0) ∙ ap (λ (x : Set). record { answer = Passed; content = x .first }) content;
           second =
-              ap (reading bytes count) (sym p₂) ∙ as-read _ (answers .1)
+              ap (reading φ bytes count) (sym p₂) ∙ as-read _ (answers .1)
               ∙ ap (λ (x : Set). record { answer = Passed; content = x .second }) content;
           third =
-              ap (reading bytes count) (sym p₃) ∙ as-read _ (answers .2)
+              ap (reading φ bytes count) (sym p₃) ∙ as-read _ (answers .2)
               ∙ ap (λ (x : Set). record { answer = Passed; content = x .third }) content;
           together = subst Together content t;
         }
 
-  there-read : (s : Set) → SetThere bytes count place s → setReading bytes count place ≡ record { answer = Passed; content = s }
+  there-read : (s : Set) → SetThere φ bytes count place s → setReading φ bytes count place ≡ record { answer = Passed; content = s }
   unfolding setReading
   there-read s t =
       let l = lengths s (t .together) in
       let kind : Reading → ℕ = λ x. lengthOf (x .content .kind) in
-      let p₂ : secondPlace bytes count place ≡ place + 250 = omega (arith, ap kind (t .first), l .0) in
-      let e₂ = ap (reading bytes count) p₂ ∙ t .second in
-      let p₃ : thirdPlace bytes count place ≡ place + 500 = omega (arith, p₂, ap kind e₂, l .1) in
-      let e₃ = ap (reading bytes count) p₃ ∙ t .third in
-      let same : setAt bytes count place ≡ s =
+      let p₂ : secondPlace φ bytes count place ≡ place + 250 = omega (arith, ap kind (t .first), l .0) in
+      let e₂ = ap (reading φ bytes count) p₂ ∙ t .second in
+      let p₃ : thirdPlace φ bytes count place ≡ place + 500 = omega (arith, p₂, ap kind e₂, l .1) in
+      let e₃ = ap (reading φ bytes count) p₃ ∙ t .third in
+      let same : setAt φ bytes count place ≡ s =
       λ i. record { first = t .first i .content; second = e₂ i .content; third = e₃ i .content } in
       let answer : Reading → Answer = λ x. x .answer in
-      beside-set _ (setAt bytes count place)
+      beside-set _ (setAt φ bytes count place)
       (then-both (ap answer (t .first)) (then-both (ap answer e₂) (then-both (ap answer e₃)
       (ap setTests same ∙ set-passes s .1 (t .together)))))
       ∙ ap (λ (x : Set). record { answer = Passed; content = x }) same
 
   -- A set is read exactly where its three strings read, end to end, and belong together.
-  pub set-exact : (s : Set) → (setReading bytes count place ≡ record { answer = Passed; content = s }) ↔ SetThere bytes count place s
+  pub set-exact : (s : Set) → (setReading φ bytes count place ≡ record { answer = Passed; content = s }) ↔ SetThere φ bytes count place s
   set-exact s = (read-there s, there-read s)
 
 -- ---- only the bytes that the strings cover, up to and with the first that is refused
@@ -180,52 +182,53 @@ alike x y y' z z' h k =
     ∙ skip (y' .answer) (from-third x y' z) (from-third x y' z') (three x y' z) (three x y' z')
     (λ b. ap (λ (w : Reading). besideSet (from-third x y' w) (three x y' w)) (k a b)))
 
-module _ (bytes others : List ℕ) (count place : ℕ) where
-  pub set-covered : length others ≡ length bytes → SameThere others bytes count place
-      → (reading bytes count place .answer ≡ Passed → SameThere others bytes count (secondPlace bytes count place))
-      → (reading bytes count place .answer ≡ Passed → reading bytes count (secondPlace bytes count place) .answer ≡ Passed
-      → SameThere others bytes count (thirdPlace bytes count place))
-      → setReading others count place ≡ setReading bytes count place
+module _ (φ : Phase) (bytes others : List ℕ) (count place : ℕ) where
+  pub set-covered : length others ≡ length bytes → SameThere φ others bytes count place
+      → (reading φ bytes count place .answer ≡ Passed → SameThere φ others bytes count (secondPlace φ bytes count place))
+      → (reading φ bytes count place .answer ≡ Passed → reading φ bytes count (secondPlace φ bytes count place) .answer ≡ Passed
+      → SameThere φ others bytes count (thirdPlace φ bytes count place))
+      → setReading φ others count place ≡ setReading φ bytes count place
   unfolding setReading
   set-covered l same₁ same₂ same₃ =
-      let old : ℕ → Reading = reading bytes count in
-      let new : ℕ → Reading = reading others count in
+      let old : ℕ → Reading = reading φ bytes count in
+      let new : ℕ → Reading = reading φ others count in
       let after : ℕ → Reading → ℕ = λ p x. p + lengthOf (x .content .kind) in
-      let second = secondPlace bytes count place in
-      let third = thirdPlace bytes count place in
-      let e₁ : new place ≡ old place = reading-covered bytes others count place l same₁ in
-      let p₂ : secondPlace others count place ≡ second = ap (after place) e₁ in
-      let e₂ : old place .answer ≡ Passed → new (secondPlace others count place) ≡ old second =
-      λ a. ap new p₂ ∙ reading-covered bytes others count second l (same₂ a) in
-      let e₃ : old place .answer ≡ Passed → old second .answer ≡ Passed → new (thirdPlace others count place) ≡ old third =
-      λ a b. ap new (ap₂ after p₂ (e₂ a)) ∙ reading-covered bytes others count third l (same₃ a b) in
-      ap (λ (x : Reading). from-first x (new (secondPlace others count place)) (new (thirdPlace others count place))) e₁
+      let second = secondPlace φ bytes count place in
+      let third = thirdPlace φ bytes count place in
+      let e₁ : new place ≡ old place = reading-covered φ bytes others count place l same₁ in
+      let p₂ : secondPlace φ others count place ≡ second = ap (after place) e₁ in
+      let e₂ : old place .answer ≡ Passed → new (secondPlace φ others count place) ≡ old second =
+      λ a. ap new p₂ ∙ reading-covered φ bytes others count second l (same₂ a) in
+      let e₃ : old place .answer ≡ Passed → old second .answer ≡ Passed → new (thirdPlace φ others count place) ≡ old third =
+      λ a b. ap new (ap₂ after p₂ (e₂ a)) ∙ reading-covered φ bytes others count third l (same₃ a b) in
+      ap (λ (x : Reading). from-first x (new (secondPlace φ others count place)) (new (thirdPlace φ others count place))) e₁
       ∙ alike (old place) _ (old second) _ (old third) e₂ e₃
 
 -- ---- what was read is written back
 
-module _ (bytes : List ℕ) (count place : ℕ) (s : Set) (below : (i : ℕ) → getD bytes i 0 < 256) (t : SetThere bytes count place s) where
+module _ (φ : Phase) (bytes : List ℕ) (count place : ℕ) (s : Set) (below : (i : ℕ) → getD bytes i 0 < 256)
+    (t : SetThere φ bytes count place s) where
   -- each of the three
-  back : (p : ℕ) (r : Record) → reading bytes count p ≡ record { answer = Passed; content = r }
-      → WritesBack bytes count p r × (p + lengthOf (r .kind) ≤ count)
+  back : (p : ℕ) (r : Record) → reading φ bytes count p ≡ record { answer = Passed; content = r }
+      → WritesBack φ bytes count p r × (p + lengthOf (r .kind) ≤ count)
   back p r e =
       let a = ap (λ (x : Reading). x .answer) e in
       let c = ap (λ (x : Reading). x .content) e in (
-        subst (WritesBack bytes count p) c (read-back bytes count p below a),
-        subst (λ (x : Record). p + lengthOf (x .kind) ≤ count) c (read-fits bytes count p a),
+        subst (WritesBack φ bytes count p) c (read-back φ bytes count p below a),
+        subst (λ (x : Record). p + lengthOf (x .kind) ≤ count) c (read-fits φ bytes count p a),
       )
 
-  abbrev first : WritesBack bytes count place (s .first) × (place + lengthOf (s .first .kind) ≤ count)
+  abbrev first : WritesBack φ bytes count place (s .first) × (place + lengthOf (s .first .kind) ≤ count)
   first = back place (s .first) (t .first)
 
-  abbrev second : WritesBack bytes count (place + 250) (s .second) × (place + 250 + lengthOf (s .second .kind) ≤ count)
+  abbrev second : WritesBack φ bytes count (place + 250) (s .second) × (place + 250 + lengthOf (s .second .kind) ≤ count)
   second = back (place + 250) (s .second) (t .second)
 
-  abbrev third : WritesBack bytes count (place + 500) (s .third) × (place + 500 + lengthOf (s .third .kind) ≤ count)
+  abbrev third : WritesBack φ bytes count (place + 500) (s .third) × (place + 500 + lengthOf (s .third .kind) ≤ count)
   third = back (place + 500) (s .third) (t .third)
 
   inside : Passes bytes count
-  inside = read-passes bytes count place (ap (λ (x : Reading). x .answer) (t .first))
+  inside = read-passes φ bytes count place (ap (λ (x : Reading). x .answer) (t .first))
 
   room : place + setLength ≤ count
   room = omega (arith, third .1, lengths s (t .together) .2)
@@ -234,10 +237,10 @@ module _ (bytes : List ℕ) (count place : ℕ) (s : Set) (below : (i : ℕ) →
   unfolding memberTests
   members = then-both (first .0 .passes) (then-both (second .0 .passes) (third .0 .passes))
 
-  same-bits : setBits s ≡ cut place setLength (recorded bytes count)
+  same-bits : setBits s ≡ cut place setLength (recorded φ bytes count)
   unfolding setBits
   same-bits =
-      let u = recorded bytes count in
+      let u = recorded φ bytes count in
       let l = lengths s (t .together) in
       let one = first .0 .same-bits ∙ ap (λ (n : ℕ). cut place n u) (l .0) in
       let two = second .0 .same-bits ∙ ap (λ (n : ℕ). cut (place + 250) n u) (l .1) in
@@ -247,7 +250,7 @@ module _ (bytes : List ℕ) (count place : ℕ) (s : Set) (below : (i : ℕ) →
       (ap₂ (λ (x y : List Bool). x ++ y) two (three ∙ ap (λ (q : ℕ). cut q 250 u) e) ∙ sym (cut-split (place + 250) 250 250 u))
       ∙ sym (cut-split place 250 500 u)
 
-  pub set-read-back : SetWritesBack bytes count place s
+  pub set-read-back : SetWritesBack φ bytes count place s
   unfolding setWriting setWriteTests
   set-read-back =
       let tested = set-passes s .1 (t .together) in
@@ -258,7 +261,7 @@ module _ (bytes : List ℕ) (count place : ℕ) (s : Set) (below : (i : ℕ) →
             ap (λ (a : Answer). giving a (place + setLength))
             (then-both (passes-place inside (omega (arith, room)))
             (then-both members (then-both tested (sym (when-no (RunsOut place) (le-ltb count (place + setLength) room))))));
-        same-bytes = with-same bytes count place setLength (setBits s) below inside room same-bits;
+        same-bytes = with-same φ bytes count place setLength (setBits s) below inside room same-bits;
       }
 
 -- ---- what was written is read back
@@ -328,22 +331,23 @@ set-written-back bytes count place next s holds e =
     let lv = length-set-bits s holds t in
     let fits : place + length v ≤ count = omega arith in
     let b = withBits place v bytes in
+    let u = recorded Straight b count in
     let passes = with-passes bytes count place v fits inside in
     let there = with-there bytes count place v fits inside in
     let one =
     there-back b count place (s .first) (holds .first) passes (m₁ .0) (omega arith)
-    (ap (λ (n : ℕ). cut place n (recorded b count)) (l .0) ∙ there 0 250 place (omega arith) (omega arith) ∙ first-bits s holds t) in
+    (ap (λ (n : ℕ). cut place n u) (l .0) ∙ there 0 250 place (omega arith) (omega arith) ∙ first-bits s holds t) in
     let two =
     there-back b count (place + 250) (s .second) (holds .second) passes (m₂ .0) (omega arith)
-    (ap (λ (n : ℕ). cut (place + 250) n (recorded b count)) (l .1) ∙ there 250 250 (place + 250) refl (omega arith)
+    (ap (λ (n : ℕ). cut (place + 250) n u) (l .1) ∙ there 250 250 (place + 250) refl (omega arith)
     ∙ second-bits s holds t) in
     let three =
     there-back b count (place + 500) (s .third) (holds .third) passes (m₂ .1) (omega arith)
-    (ap (λ (n : ℕ). cut (place + 500) n (recorded b count)) (l .2) ∙ there 500 250 (place + 500) refl (omega arith)
+    (ap (λ (n : ℕ). cut (place + 500) n u) (l .2) ∙ there 500 250 (place + 500) refl (omega arith)
     ∙ third-bits s holds t) in
     record {
       reads =
-          set-exact b count place s .1
+          set-exact Straight b count place s .1
           (record { first = one .reads; second = two .reads; third = three .reads; together = t });
       first = one;
       second = two;

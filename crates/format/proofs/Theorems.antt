@@ -6,7 +6,10 @@ use mathlib.Core.Logic.{_↔_}
 use Prim.Native.Nat.{ℕ, _+_, _*_, _%_, _≤_, _<_}
 use lib.IntN.{ℤ}
 use lib.ListN.{length, getD}
-use Rattle.bits.specs.Bits.{recorded}
+use Rattle.bits.specs.declared.Phase.{Phase}
+use Rattle.bits.specs.declared.Phase.the-variants.{Straight, Inverted}
+use Rattle.bits.specs.Bits.{recorded, complement}
+use Rattle.bits.proofs.Phases.{recorded-true, recorded-back}
 use Rattle.cyclic.specs.Burst.{Burst}
 use Rattle.format.specs.declared.Answer.the-variants.{Passed}
 use Rattle.format.specs.declared.Outcome.{Outcome}
@@ -29,6 +32,7 @@ use Rattle.format.proofs.Agree
 use Rattle.format.proofs.Covered
 use Rattle.format.proofs.Damage
 use Rattle.format.proofs.Numbered
+use Rattle.format.proofs.Phases
 use Rattle.format.proofs.Promise
 use Rattle.format.proofs.Resync
 use Rattle.format.proofs.RoundTrips
@@ -67,10 +71,40 @@ pub resync : (bits : List Bool) (b : ℕ) (bs : List ℕ) → Clean (Stands bits
 resync = Resync.resync
 
 -- An answer and a list that are what the definitions say keep the whole promise of listing.
-pub list-promise : (bytes : List ℕ) (count : ℕ) (before : List ℕ) (answer : Outcome) (after : List ℕ)
-    → answer ≡ listing bytes count (length before)
-    → after ≡ listAfter answer before (starts (recorded bytes count)) → ListPromise bytes count before answer after
+pub list-promise : (phase : Phase) (bytes : List ℕ) (count : ℕ) (before : List ℕ) (answer : Outcome) (after : List ℕ)
+    → answer ≡ listing phase bytes count (length before)
+    → after ≡ listAfter answer before (starts (recorded phase bytes count)) → ((i : ℕ) → getD bytes i 0 < 256)
+    → ListPromise phase bytes count before answer after
 list-promise = Promise.promised
+
+-- ---- phases
+
+-- The true bits of an inverted recording are the bits of its complement, and so it lists, reads and reads a set as that does straight.
+pub inverted : (bytes : List ℕ) (count : ℕ) → ((i : ℕ) → getD bytes i 0 < 256)
+    → recorded Inverted bytes count ≡ recorded Straight (complement bytes) count
+inverted = recorded-true Inverted
+
+pub inverted-lists : (bytes : List ℕ) (count : ℕ) → ((i : ℕ) → getD bytes i 0 < 256) → (room : ℕ)
+    → listing Inverted bytes count room ≡ listing Straight (complement bytes) count room
+inverted-lists = Promise.lists-straight Inverted
+
+pub inverted-list-promise : (bytes : List ℕ) (count : ℕ) (before : List ℕ) (answer : Outcome) (after : List ℕ)
+    → ((i : ℕ) → getD bytes i 0 < 256)
+    → ListPromise Inverted bytes count before answer after ↔ ListPromise Straight (complement bytes) count before answer after
+inverted-list-promise = Promise.inverted-promise
+
+pub inverted-reads : (bytes : List ℕ) (count : ℕ) → ((i : ℕ) → getD bytes i 0 < 256) → (place : ℕ)
+    → reading Inverted bytes count place ≡ reading Straight (complement bytes) count place
+inverted-reads = Phases.reads-straight Inverted
+
+pub inverted-reads-set : (bytes : List ℕ) (count : ℕ) → ((i : ℕ) → getD bytes i 0 < 256) → (place : ℕ)
+    → setReading Inverted bytes count place ≡ setReading Straight (complement bytes) count place
+inverted-reads-set = Phases.set-reads-straight Inverted
+
+-- And the other way: the complement of a straight recording, inverted, has its bits.
+pub inverted-back : (bytes : List ℕ) (count : ℕ) → ((i : ℕ) → getD bytes i 0 < 256)
+    → recorded Inverted (complement bytes) count ≡ recorded Straight bytes count
+inverted-back = recorded-back
 
 -- ---- reading and writing undo each other
 
@@ -79,9 +113,9 @@ pub written-back : (bytes : List ℕ) (count place next : ℕ) (r : Record) → 
     → ReadsBack (bytesAfter (Given next) place (string r) bytes) count place r
 written-back = RoundTrips.written-back
 
--- A string that reads writes back to the same bits and bytes.
-pub read-back : (bytes : List ℕ) (count place : ℕ) → ((i : ℕ) → getD bytes i 0 < 256) → reading bytes count place .answer ≡ Passed
-    → WritesBack bytes count place (reading bytes count place .content)
+-- A string that reads writes back to its true bits, and to the bytes that hold them straight.
+pub read-back : (phase : Phase) (bytes : List ℕ) (count place : ℕ) → ((i : ℕ) → getD bytes i 0 < 256)
+    → reading phase bytes count place .answer ≡ Passed → WritesBack phase bytes count place (reading phase bytes count place .content)
 read-back = RoundTrips.read-back
 
 -- ---- sets
@@ -95,8 +129,8 @@ pub set-passes : (s : Set) → (setTests s ≡ Passed) ↔ Together s
 set-passes = Sets.set-passes
 
 -- A set is read exactly where its three strings read, end to end, and belong together.
-pub set-exact : (bytes : List ℕ) (count place : ℕ) (s : Set)
-    → (setReading bytes count place ≡ record { answer = Passed; content = s }) ↔ SetThere bytes count place s
+pub set-exact : (phase : Phase) (bytes : List ℕ) (count place : ℕ) (s : Set)
+    → (setReading phase bytes count place ≡ record { answer = Passed; content = s }) ↔ SetThere phase bytes count place s
 set-exact = Sets.set-exact
 
 -- The bits of a set are 750.
@@ -108,29 +142,31 @@ pub set-written-back : (bytes : List ℕ) (count place next : ℕ) (s : Set) →
     → SetReadsBack (bytesAfter (Given next) place (setBits s) bytes) count place s
 set-written-back = Sets.set-written-back
 
--- A set that reads writes back to the same bits and bytes.
-pub set-read-back : (bytes : List ℕ) (count place : ℕ) (s : Set) → ((i : ℕ) → getD bytes i 0 < 256) → SetThere bytes count place s
-    → SetWritesBack bytes count place s
+-- A set that reads writes back to its true bits, and to the bytes that hold them straight.
+pub set-read-back : (phase : Phase) (bytes : List ℕ) (count place : ℕ) (s : Set) → ((i : ℕ) → getD bytes i 0 < 256)
+    → SetThere phase bytes count place s → SetWritesBack phase bytes count place s
 set-read-back = Sets.set-read-back
 
 -- ---- only the bytes that a string covers
 
 -- Two recordings of one length, with the same bit count, that agree on the bytes that the string at a place covers: what stands there is
 -- the same, and they read alike there.
-pub standing-covered : (bytes others : List ℕ) (count place : ℕ) → length others ≡ length bytes → SameThere others bytes count place
-    → count ≤ 8 * length bytes → standing (recorded others count) place ≡ standing (recorded bytes count) place
+pub standing-covered : (phase : Phase) (bytes others : List ℕ) (count place : ℕ) → length others ≡ length bytes
+    → SameThere phase others bytes count place → count ≤ 8 * length bytes
+    → standing (recorded phase others count) place ≡ standing (recorded phase bytes count) place
 standing-covered = Covered.standing-covered
 
-pub reading-covered : (bytes others : List ℕ) (count place : ℕ) → length others ≡ length bytes → SameThere others bytes count place
-    → reading others count place ≡ reading bytes count place
+pub reading-covered : (phase : Phase) (bytes others : List ℕ) (count place : ℕ) → length others ≡ length bytes
+    → SameThere phase others bytes count place → reading phase others count place ≡ reading phase bytes count place
 reading-covered = Covered.reading-covered
 
 -- The same of a set, of which the strings up to and with the first that is refused count.
-pub set-covered : (bytes others : List ℕ) (count place : ℕ) → length others ≡ length bytes → SameThere others bytes count place
-    → (reading bytes count place .answer ≡ Passed → SameThere others bytes count (secondPlace bytes count place))
-    → (reading bytes count place .answer ≡ Passed → reading bytes count (secondPlace bytes count place) .answer ≡ Passed
-    → SameThere others bytes count (thirdPlace bytes count place))
-    → setReading others count place ≡ setReading bytes count place
+pub set-covered : (phase : Phase) (bytes others : List ℕ) (count place : ℕ) → length others ≡ length bytes
+    → SameThere phase others bytes count place
+    → (reading phase bytes count place .answer ≡ Passed → SameThere phase others bytes count (secondPlace phase bytes count place))
+    → (reading phase bytes count place .answer ≡ Passed → reading phase bytes count (secondPlace phase bytes count place) .answer ≡ Passed
+    → SameThere phase others bytes count (thirdPlace phase bytes count place))
+    → setReading phase others count place ≡ setReading phase bytes count place
 set-covered = Sets.set-covered
 
 -- ---- answers by the papers' number and value
@@ -139,16 +175,16 @@ pub list-numbered : (bytes count room found : ℕ)
     → outcomeCode (listAnswer bytes count room found) ≡ returned (listLines bytes count room found) found
 list-numbered = Numbered.list-numbered
 
-pub read-numbered : (bytes : List ℕ) (count place : ℕ)
-    → answerCode (reading bytes count place .answer) ≡ readReturned bytes count place
+pub read-numbered : (phase : Phase) (bytes : List ℕ) (count place : ℕ)
+    → answerCode (reading phase bytes count place .answer) ≡ readReturned phase bytes count place
 read-numbered = Numbered.read-numbered
 
 pub write-numbered : (bytes count place : ℕ) (r : Record)
     → outcomeCode (writing bytes count place r) ≡ writeReturned bytes count place r
 write-numbered = Numbered.write-numbered
 
-pub set-read-numbered : (bytes : List ℕ) (count place : ℕ)
-    → answerCode (setReading bytes count place .answer) ≡ setReadReturned bytes count place
+pub set-read-numbered : (phase : Phase) (bytes : List ℕ) (count place : ℕ)
+    → answerCode (setReading phase bytes count place .answer) ≡ setReadReturned phase bytes count place
 set-read-numbered = Numbered.set-read-numbered
 
 pub set-write-numbered : (bytes count place : ℕ) (s : Set)

@@ -6,7 +6,9 @@ use mathlib.Core.Logic.{_↔_}
 use Prim.Native.Nat.{ℕ, _+_}
 use lib.Dec.{eqb, ltb}
 use lib.ListN.{length}
-use Rattle.bits.specs.Bits.{recorded, cut}
+use Rattle.bits.specs.declared.Phase.{Phase}
+use Rattle.bits.specs.declared.Phase.the-variants.{Straight}
+use Rattle.bits.specs.Bits.{recorded, trueBytes, cut}
 use Rattle.format.specs.declared.Answer.{Answer}
 use Rattle.format.specs.declared.Answer.the-variants.{Passed}
 use Rattle.format.specs.declared.Outcome.{Outcome}
@@ -57,20 +59,20 @@ pub record Together (s : Set) : Type 0 where
 -- ---- reading
 
 -- The place of the second string, where the first ends by the type that was read, and that of the third, where the second ends.
-abbrev pub secondPlace : List ℕ → ℕ → ℕ → ℕ
-secondPlace bytes count place = place + lengthOf (reading bytes count place .content .kind)
+abbrev pub secondPlace : Phase → List ℕ → ℕ → ℕ → ℕ
+secondPlace phase bytes count place = place + lengthOf (reading phase bytes count place .content .kind)
 
-abbrev pub thirdPlace : List ℕ → ℕ → ℕ → ℕ
-thirdPlace bytes count place =
-    secondPlace bytes count place + lengthOf (reading bytes count (secondPlace bytes count place) .content .kind)
+abbrev pub thirdPlace : Phase → List ℕ → ℕ → ℕ → ℕ
+thirdPlace phase bytes count place =
+    secondPlace phase bytes count place + lengthOf (reading phase bytes count (secondPlace phase bytes count place) .content .kind)
 
 -- The records of the three strings, each read by itself.
-abbrev pub setAt : List ℕ → ℕ → ℕ → Set
-setAt bytes count place =
+abbrev pub setAt : Phase → List ℕ → ℕ → ℕ → Set
+setAt phase bytes count place =
     record {
-      first = reading bytes count place .content;
-      second = reading bytes count (secondPlace bytes count place) .content;
-      third = reading bytes count (thirdPlace bytes count place) .content;
+      first = reading phase bytes count place .content;
+      second = reading phase bytes count (secondPlace phase bytes count place) .content;
+      third = reading phase bytes count (thirdPlace phase bytes count place) .content;
     }
 
 -- Three records with every place 0.
@@ -82,31 +84,31 @@ abbrev pub besideSet : Answer → Set → SetReading
 besideSet a s = record { answer = a; content = cond (isPassed a) s blankSet }
 
 -- Reading a set: what refuses the first string, the second, the third, and then 12, 13, 14.
-unfoldable pub setReading : List ℕ → ℕ → ℕ → SetReading
-setReading bytes count place =
+unfoldable pub setReading : Phase → List ℕ → ℕ → ℕ → SetReading
+setReading phase bytes count place =
     besideSet
-    (reading bytes count place .answer
-    then reading bytes count (secondPlace bytes count place) .answer
-    then reading bytes count (thirdPlace bytes count place) .answer
-    then setTests (setAt bytes count place))
-    (setAt bytes count place)
+    (reading phase bytes count place .answer
+    then reading phase bytes count (secondPlace phase bytes count place) .answer
+    then reading phase bytes count (thirdPlace phase bytes count place) .answer
+    then setTests (setAt phase bytes count place))
+    (setAt phase bytes count place)
 
 -- This by number and value.
-abbrev pub setReadLines : List ℕ → ℕ → ℕ → List Line
-setReadLines bytes count place =
-    readLines bytes count place
-    ++ (readLines bytes count (secondPlace bytes count place)
-    ++ (readLines bytes count (thirdPlace bytes count place) ++ setLines (setAt bytes count place)))
+abbrev pub setReadLines : Phase → List ℕ → ℕ → ℕ → List Line
+setReadLines phase bytes count place =
+    readLines phase bytes count place
+    ++ (readLines phase bytes count (secondPlace phase bytes count place)
+    ++ (readLines phase bytes count (thirdPlace phase bytes count place) ++ setLines (setAt phase bytes count place)))
 
-abbrev pub setReadReturned : List ℕ → ℕ → ℕ → ℕ × ℕ
-setReadReturned bytes count place = returned (setReadLines bytes count place) 0
+abbrev pub setReadReturned : Phase → List ℕ → ℕ → ℕ → ℕ × ℕ
+setReadReturned phase bytes count place = returned (setReadLines phase bytes count place) 0
 
 -- What it means, in words, that a set is read at a place: its three records are read there, 250 bits on and 500 bits on, and they belong
 -- together.
-pub record SetThere (bytes : List ℕ) (count place : ℕ) (s : Set) : Type 0 where
-  pub first : reading bytes count place ≡ record { answer = Passed; content = s .first }
-  pub second : reading bytes count (place + 250) ≡ record { answer = Passed; content = s .second }
-  pub third : reading bytes count (place + 500) ≡ record { answer = Passed; content = s .third }
+pub record SetThere (phase : Phase) (bytes : List ℕ) (count place : ℕ) (s : Set) : Type 0 where
+  pub first : reading phase bytes count place ≡ record { answer = Passed; content = s .first }
+  pub second : reading phase bytes count (place + 250) ≡ record { answer = Passed; content = s .second }
+  pub third : reading phase bytes count (place + 500) ≡ record { answer = Passed; content = s .third }
   pub together : Together s
 
 -- ---- writing
@@ -150,41 +152,44 @@ setWriteReturned bytes count place s = returned (setWriteLines bytes count place
 
 -- ---- the two round trips
 
--- What holds where a set was written: reading gives the set back, and each of its strings stands and reads by itself.
+-- What holds where a set was written, which is always straight: reading gives the set back, and each of its strings stands and reads by
+-- itself.
 pub record SetReadsBack (bytes : List ℕ) (count place : ℕ) (s : Set) : Type 0 where
-  pub reads : setReading bytes count place ≡ record { answer = Passed; content = s }
+  pub reads : setReading Straight bytes count place ≡ record { answer = Passed; content = s }
   pub first : ReadsBack bytes count place (s .first)
   pub second : ReadsBack bytes count (place + 250) (s .second)
   pub third : ReadsBack bytes count (place + 500) (s .third)
 
--- What holds of a set that was read: it passes the tests of its records and of a set, its bits are those there, and writing it there gives
--- the same bytes.
-pub record SetWritesBack (bytes : List ℕ) (count place : ℕ) (s : Set) : Type 0 where
+-- What holds of a set that was read: it passes the tests of its records and of a set, its bits are the true ones there, and writing it at
+-- that place of the bytes that hold the true bits straight changes none of them.
+pub record SetWritesBack (phase : Phase) (bytes : List ℕ) (count place : ℕ) (s : Set) : Type 0 where
   pub passes : (memberTests s ≡ Passed) × (setTests s ≡ Passed)
-  pub same-bits : setBits s ≡ cut place setLength (recorded bytes count)
+  pub same-bits : setBits s ≡ cut place setLength (recorded phase bytes count)
   pub writes : setWriting (length bytes) count place s ≡ Given (place + setLength)
-  pub same-bytes : bytesAfter (Given (place + setLength)) place (setBits s) bytes ≡ bytes
+  pub same-bytes : bytesAfter (Given (place + setLength)) place (setBits s) (trueBytes phase bytes) ≡ trueBytes phase bytes
 
 -- ---- what the functions promise
 
--- What reading a set promises, of the lent bytes, the bit count, the place and what it gives.
-pub record SetReadPromise (bytes : List ℕ) (count place : ℕ) (found : SetReading) : Type 0 where
+-- What reading a set promises, of the phase, the lent bytes, the bit count, the place and what it gives.
+pub record SetReadPromise (phase : Phase) (bytes : List ℕ) (count place : ℕ) (found : SetReading) : Type 0 where
   -- the answer, beside the set or a blank one
-  pub answered : found ≡ setReading bytes count place
+  pub answered : found ≡ setReading phase bytes count place
   -- the same by number and value
-  pub numbered : answerCode (found .answer) ≡ setReadReturned bytes count place
+  pub numbered : answerCode (found .answer) ≡ setReadReturned phase bytes count place
+  -- an inverted recording reads as its complement does straight
+  pub straight : found ≡ setReading Straight (trueBytes phase bytes) count place
   -- a set is given exactly where its three strings read, end to end, and belong together
-  pub exact : (s : Set) → (found ≡ record { answer = Passed; content = s }) ↔ SetThere bytes count place s
-  -- a set that reads is written back to the same bits
-  pub back : found .answer ≡ Passed → SetWritesBack bytes count place (found .content)
+  pub exact : (s : Set) → (found ≡ record { answer = Passed; content = s }) ↔ SetThere phase bytes count place s
+  -- a set that reads is written back to its true bits
+  pub back : found .answer ≡ Passed → SetWritesBack phase bytes count place (found .content)
   -- of the bytes, only those that the strings cover count, up to and with the first that is refused: as many others that agree on these
   -- read alike
   pub covered : (others : List ℕ) → length others ≡ length bytes
-      → SameThere others bytes count place
-      → (reading bytes count place .answer ≡ Passed → SameThere others bytes count (secondPlace bytes count place))
-      → (reading bytes count place .answer ≡ Passed → reading bytes count (secondPlace bytes count place) .answer ≡ Passed
-      → SameThere others bytes count (thirdPlace bytes count place))
-      → found ≡ setReading others count place
+      → SameThere phase others bytes count place
+      → (reading phase bytes count place .answer ≡ Passed → SameThere phase others bytes count (secondPlace phase bytes count place))
+      → (reading phase bytes count place .answer ≡ Passed → reading phase bytes count (secondPlace phase bytes count place) .answer ≡ Passed
+      → SameThere phase others bytes count (thirdPlace phase bytes count place))
+      → found ≡ setReading phase others count place
 
 -- What writing a set promises, of the lent bytes before, the bit count, the place, the set, the answer, and the bytes afterwards.
 pub record SetWritePromise (before : List ℕ) (count place : ℕ) (s : Set) (answer : Outcome) (after : List ℕ) : Type 0 where

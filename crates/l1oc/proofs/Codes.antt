@@ -1,9 +1,11 @@
 -- From a number and a value to the promises of the C interface: number 0 comes with no refusal. Assumes nothing.
 use mathlib.Core.List.{List}
-use mathlib.Core.Path.{_≡_, sym, ap, ap₂, _∙_, subst}
-use Prim.Native.Nat.{ℕ}
+use mathlib.Core.Path.{_≡_, refl, sym, ap, ap₂, _∙_, subst}
+use Prim.Native.Nat.{ℕ, zero, suc}
 use lib.IntN.{ℤ}
 use lib.ListN.{length}
+use Rattle.bits.specs.declared.Phase.{Phase}
+use Rattle.bits.specs.declared.Phase.the-variants.{Inverted}
 use Rattle.format.specs.Answers.{answerCode, outcomeCode, valueCode}
 use Rattle.format.specs.Demand3.{ListPromise}
 use Rattle.format.specs.Listing.{listing, listReturned}
@@ -22,7 +24,7 @@ use Rattle.format.specs.declared.Set.{Set}
 use Rattle.format.specs.declared.SetReading.{SetReading}
 use Rattle.format.specs.declared.Value.{Value}
 use Rattle.format.proofs.Codes.{zero-passed, zero-given, zero-number}
-use Rattle.l1oc.specs.Codes.{coded, readCoded, setCoded, valueCoded}
+use Rattle.l1oc.specs.Codes.{phaseOf, coded, readCoded, setCoded, valueCoded}
 use Rattle.answers.specs.declared.Code.{Code}
 use Rattle.l1oc.specs.declared.ReadCode.{ReadCode}
 use Rattle.l1oc.specs.declared.SetCode.{SetCode}
@@ -40,6 +42,11 @@ beside r content = record { number = r .number; value = r .value; content = cont
 
 abbrev set-beside : Code → Set → SetCode
 set-beside r content = record { number = r .number; value = r .value; content = content }
+
+-- a number that is not 0 names the inverted phase
+pub not-straight : (n : ℕ) → (n ≡ 0 → ⊥) → Inverted ≡ phaseOf n
+not-straight zero h = absurd (h refl)
+not-straight (suc n) h = refl
 
 -- ---- the parts of the promises
 
@@ -63,25 +70,42 @@ found Promise a r p e f s =
     ((s .0 ∙ ap (λ (c : ℕ × ℕ). c .0) f, s .1 ∙ ap (λ (c : ℕ × ℕ). c .1) f), subst Promise e p)
 
 -- ---- the promises
-module _ (bytes : List ℕ) (count : ℕ) where
-  pub lists : (before after : List ℕ) (answer : Outcome) (r : Code) → ListPromise bytes count before answer after
+-- of a recording, whose phase `named` is that of a number
+module _ {named phase : Phase} (same : named ≡ phase) (bytes : List ℕ) (count : ℕ) where
+  pub lists : (before after : List ℕ) (answer : Outcome) (r : Code) → ListPromise named bytes count before answer after
       → Says r (outcomeCode answer)
-      → (r ≡ coded (outcomeCode (listing bytes count (length before))))
-      × ((r ≡ coded (listReturned bytes count (length before)))
-      × ListPromise bytes count before (listing bytes count (length before)) after)
-  lists before after answer r p e = outcome (λ x. ListPromise bytes count before x after) r p (p .answered) (p .numbered) e
+      → (r ≡ coded (outcomeCode (listing phase bytes count (length before))))
+      × ((r ≡ coded (listReturned phase bytes count (length before)))
+      × ListPromise phase bytes count before (listing phase bytes count (length before)) after)
+  lists before after answer r given e =
+      let p = subst (λ (x : Phase). ListPromise x bytes count before answer after) same given in
+      outcome (λ x. ListPromise phase bytes count before x after) r p (p .answered) (p .numbered) e
 
-  pub reads : (place : ℕ) (x : Reading) (r : Code) → ReadPromise bytes count place x → Says r (answerCode (x .answer))
-      → (beside r (x .content) ≡ readCoded (reading bytes count place))
-      × (((r .number ≡ readReturned bytes count place .0) × (r .value ≡ readReturned bytes count place .1))
-      × (ReadPromise bytes count place (reading bytes count place)
-      × (r .number ≡ 0 → WritesBack bytes count place (x .content))))
-  reads place x r p e =
-      let f = found (ReadPromise bytes count place) (x .answer) r p (p .answered) (p .numbered) e in (
+  pub reads : (place : ℕ) (x : Reading) (r : Code) → ReadPromise named bytes count place x → Says r (answerCode (x .answer))
+      → (beside r (x .content) ≡ readCoded (reading phase bytes count place))
+      × (((r .number ≡ readReturned phase bytes count place .0) × (r .value ≡ readReturned phase bytes count place .1))
+      × (ReadPromise phase bytes count place (reading phase bytes count place)
+      × (r .number ≡ 0 → WritesBack phase bytes count place (x .content))))
+  reads place x r given e =
+      let p = subst (λ (y : Phase). ReadPromise y bytes count place x) same given in
+      let f = found (ReadPromise phase bytes count place) (x .answer) r p (p .answered) (p .numbered) e in (
         ap (λ (k : Code). beside k (x .content)) (code-is r (answerCode (x .answer)) e) ∙ ap readCoded (p .answered),
         (f .0, (f .1, λ z. p .back (zero-passed (x .answer) (sym (e .0) ∙ z)))),
       )
 
+  pub set-reads : (place : ℕ) (x : SetReading) (r : Code) → SetReadPromise named bytes count place x → Says r (answerCode (x .answer))
+      → (set-beside r (x .content) ≡ setCoded (setReading phase bytes count place))
+      × (((r .number ≡ setReadReturned phase bytes count place .0) × (r .value ≡ setReadReturned phase bytes count place .1))
+      × (SetReadPromise phase bytes count place (setReading phase bytes count place)
+      × (r .number ≡ 0 → SetWritesBack phase bytes count place (x .content))))
+  set-reads place x r given e =
+      let p = subst (λ (y : Phase). SetReadPromise y bytes count place x) same given in
+      let f = found (SetReadPromise phase bytes count place) (x .answer) r p (p .answered) (p .numbered) e in (
+        ap (λ (k : Code). set-beside k (x .content)) (code-is r (answerCode (x .answer)) e) ∙ ap setCoded (p .answered),
+        (f .0, (f .1, λ z. p .back (zero-passed (x .answer) (sym (e .0) ∙ z)))),
+      )
+
+module _ (bytes : List ℕ) (count : ℕ) where
   pub writes : (place : ℕ) (content : Record) (after : List ℕ) (answer : Outcome) (r : Code)
       → WritePromise bytes count place content answer after
       → Says r (outcomeCode answer)
@@ -92,17 +116,6 @@ module _ (bytes : List ℕ) (count : ℕ) where
   writes place content after answer r p e =
       let o = outcome (λ x. WritePromise bytes count place content x after) r p (p .answered) (p .numbered) e in
       (o .0, (o .1 .0, (o .1 .1, done answer r e (p .back))))
-
-  pub set-reads : (place : ℕ) (x : SetReading) (r : Code) → SetReadPromise bytes count place x → Says r (answerCode (x .answer))
-      → (set-beside r (x .content) ≡ setCoded (setReading bytes count place))
-      × (((r .number ≡ setReadReturned bytes count place .0) × (r .value ≡ setReadReturned bytes count place .1))
-      × (SetReadPromise bytes count place (setReading bytes count place)
-      × (r .number ≡ 0 → SetWritesBack bytes count place (x .content))))
-  set-reads place x r p e =
-      let f = found (SetReadPromise bytes count place) (x .answer) r p (p .answered) (p .numbered) e in (
-        ap (λ (k : Code). set-beside k (x .content)) (code-is r (answerCode (x .answer)) e) ∙ ap setCoded (p .answered),
-        (f .0, (f .1, λ z. p .back (zero-passed (x .answer) (sym (e .0) ∙ z)))),
-      )
 
   pub set-writes : (place : ℕ) (content : Set) (after : List ℕ) (answer : Outcome) (r : Code)
       → SetWritePromise bytes count place content answer after

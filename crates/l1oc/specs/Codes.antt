@@ -1,6 +1,8 @@
--- The structs of the C interface, from the answers and their numbers and values. Assumes nothing.
-use Prim.Native.Nat.{ℕ}
+-- The numbers of the C interface that name a phase, and its structs, from the answers and their numbers and values. Assumes nothing.
+use Prim.Native.Nat.{ℕ, zero, suc}
 use lib.Ieee.{Float}
+use Rattle.bits.specs.declared.Phase.{Phase}
+use Rattle.bits.specs.declared.Phase.the-variants.{Straight, Inverted}
 use Rattle.format.specs.Answers.{answerCode}
 use Rattle.format.specs.declared.Reading.{Reading}
 use Rattle.format.specs.declared.SetReading.{SetReading}
@@ -8,6 +10,11 @@ use Rattle.answers.specs.declared.Code.{Code}
 use Rattle.l1oc.specs.declared.ReadCode.{ReadCode}
 use Rattle.l1oc.specs.declared.SetCode.{SetCode}
 use Rattle.l1oc.specs.declared.ValueCode.{ValueCode}
+
+-- The phase that a number names: 0 straight, every other inverted.
+abbrev pub phaseOf : ℕ → Phase
+phaseOf zero = Straight
+phaseOf (suc n) = Inverted
 
 -- A number and a value.
 abbrev pub coded : ℕ × ℕ → Code

@@ -1,5 +1,6 @@
 // The C interface (`include/l1oc.h`): each function gives the answer of a proved one as the paper's number and value.
 use answers::Code;
+use bits::Phase;
 use format::Record;
 use format::Set;
 use format::Value;
@@ -14,7 +15,7 @@ ghost use Rattle.format.specs.Sets.{SetReadPromise, SetWritePromise};
 ghost use Rattle.format.specs.Values.{powerOf, countOf, IsScaled, scaling, scaleReturned, ScalePromise};
 ghost use Rattle.format.specs.Values.{accuracy, accuracyReturned, dayCount, daysReturned};
 ghost use Rattle.format.specs.Writing.{writing, writeReturned, ReadsBack, WritesBack, ReadPromise, WritePromise};
-ghost use Rattle.l1oc.specs.Codes.{coded, readCoded, setCoded, valueCoded};
+ghost use Rattle.l1oc.specs.Codes.{phaseOf, coded, readCoded, setCoded, valueCoded};
 
 // What reading answers: 0 and 0 beside the record, or a refusal beside a blank one.
 #[repr(C)]
@@ -61,28 +62,39 @@ fn value_code(answer: Value) -> ValueCode
     }
 }
 
-// Lists the starts of the strings in the first `count` bits.
-#[no_mangle]
-pub extern "C" fn l1oc_list(bytes: &[u8], count: usize, list: &mut [u32]) -> Code
-    ensures { λ r. ⌜ r ≡ coded (outcomeCode (listing (now (bytes .entry)) count (length (now (list .entry))))) ⌝ }
-    ensures { λ r. ⌜ r ≡ coded (listReturned (now (bytes .entry)) count (length (now (list .entry)))) ⌝ }
-    ensures { λ _. ⌜ ListPromise (now (bytes .entry)) count (now (list .entry))
-        (listing (now (bytes .entry)) count (length (now (list .entry)))) (now (list .exit)) ⌝ }
+// The phase that a number names: 0 straight, every other inverted.
+fn phase_of(number: u32) -> Phase
+    ensures { λ r. ⌜ r ≡ phaseOf number ⌝ }
 {
-    let answer = listing::list(bytes, count, list);
+    match number {
+        0 => Phase::Straight,
+        _ => Phase::Inverted,
+    }
+}
+
+// Lists the starts of the strings in the first `count` true bits.
+#[no_mangle]
+pub extern "C" fn l1oc_list(bytes: &[u8], count: usize, phase: u32, list: &mut [u32]) -> Code
+    ensures { λ r. ⌜ r ≡ coded (outcomeCode (listing (phaseOf phase) (now (bytes .entry)) count (length (now (list .entry))))) ⌝ }
+    ensures { λ r. ⌜ r ≡ coded (listReturned (phaseOf phase) (now (bytes .entry)) count (length (now (list .entry)))) ⌝ }
+    ensures { λ _. ⌜ ListPromise (phaseOf phase) (now (bytes .entry)) count (now (list .entry))
+        (listing (phaseOf phase) (now (bytes .entry)) count (length (now (list .entry)))) (now (list .exit)) ⌝ }
+{
+    let answer = listing::list(bytes, count, phase_of(phase), list);
     answers::outcome_code(answer)
 }
 
 // Reads the string at a place: the answer, beside the record or a blank one.
 #[no_mangle]
-pub extern "C" fn l1oc_read(bytes: &[u8], count: usize, place: usize) -> ReadCode
-    ensures { λ r. ⌜ r ≡ readCoded (reading (now (bytes .entry)) count place) ⌝ }
-    ensures { λ r. ⌜ (r .number ≡ readReturned (now (bytes .entry)) count place .0)
-        × (r .value ≡ readReturned (now (bytes .entry)) count place .1) ⌝ }
-    ensures { λ _. ⌜ ReadPromise (now (bytes .entry)) count place (reading (now (bytes .entry)) count place) ⌝ }
-    ensures { λ r. ⌜ (r .number ≡ 0 → WritesBack (now (bytes .entry)) count place (r .content)) ⌝ }
+pub extern "C" fn l1oc_read(bytes: &[u8], count: usize, phase: u32, place: usize) -> ReadCode
+    ensures { λ r. ⌜ r ≡ readCoded (reading (phaseOf phase) (now (bytes .entry)) count place) ⌝ }
+    ensures { λ r. ⌜ (r .number ≡ readReturned (phaseOf phase) (now (bytes .entry)) count place .0)
+        × (r .value ≡ readReturned (phaseOf phase) (now (bytes .entry)) count place .1) ⌝ }
+    ensures { λ _. ⌜ ReadPromise (phaseOf phase) (now (bytes .entry)) count place
+        (reading (phaseOf phase) (now (bytes .entry)) count place) ⌝ }
+    ensures { λ r. ⌜ (r .number ≡ 0 → WritesBack (phaseOf phase) (now (bytes .entry)) count place (r .content)) ⌝ }
 {
-    let found = reading::read(bytes, count, place);
+    let found = reading::read(bytes, count, phase_of(phase), place);
     let answer = found.answer;
     let content = found.content;
     let code = answers::answer_code(answer);
@@ -108,14 +120,15 @@ pub extern "C" fn l1oc_write(bytes: &mut [u8], count: usize, place: usize, conte
 
 // Reads the set at a place: the answer, beside the set or a blank one.
 #[no_mangle]
-pub extern "C" fn l1oc_read_set(bytes: &[u8], count: usize, place: usize) -> SetCode
-    ensures { λ r. ⌜ r ≡ setCoded (setReading (now (bytes .entry)) count place) ⌝ }
-    ensures { λ r. ⌜ (r .number ≡ setReadReturned (now (bytes .entry)) count place .0)
-        × (r .value ≡ setReadReturned (now (bytes .entry)) count place .1) ⌝ }
-    ensures { λ _. ⌜ SetReadPromise (now (bytes .entry)) count place (setReading (now (bytes .entry)) count place) ⌝ }
-    ensures { λ r. ⌜ (r .number ≡ 0 → SetWritesBack (now (bytes .entry)) count place (r .content)) ⌝ }
+pub extern "C" fn l1oc_read_set(bytes: &[u8], count: usize, phase: u32, place: usize) -> SetCode
+    ensures { λ r. ⌜ r ≡ setCoded (setReading (phaseOf phase) (now (bytes .entry)) count place) ⌝ }
+    ensures { λ r. ⌜ (r .number ≡ setReadReturned (phaseOf phase) (now (bytes .entry)) count place .0)
+        × (r .value ≡ setReadReturned (phaseOf phase) (now (bytes .entry)) count place .1) ⌝ }
+    ensures { λ _. ⌜ SetReadPromise (phaseOf phase) (now (bytes .entry)) count place
+        (setReading (phaseOf phase) (now (bytes .entry)) count place) ⌝ }
+    ensures { λ r. ⌜ (r .number ≡ 0 → SetWritesBack (phaseOf phase) (now (bytes .entry)) count place (r .content)) ⌝ }
 {
-    let found = sets::read(bytes, count, place);
+    let found = sets::read(bytes, count, phase_of(phase), place);
     let answer = found.answer;
     let content = found.content;
     let code = answers::answer_code(answer);

@@ -1,8 +1,9 @@
 // Bits put into lent bytes: a field, a run copied, a run as whole bytes. What is put, the definitions of `bits` say.
+use bits::Phase;
 ghost use mathlib.Core.Path.{_≡_};
 ghost use Prim.Native.Nat.{_+_, _*_, _^_, _<_, _≤_};
 ghost use lib.ListN.{length};
-ghost use Rattle.bits.specs.Bits.{bits, unpack, cut, put, bytesFor, pack};
+ghost use Rattle.bits.specs.Bits.{bits, unpack, trueBits, cut, put, bytesFor, pack};
 
 // The byte `b` with the `n` bits after its first `skip` made `c`.
 fn byte_with(b: u8, skip: usize, n: usize, c: u64) -> u8
@@ -70,26 +71,26 @@ fn least(a: usize, b: usize) -> usize
     if a < b { a } else { b }
 }
 
-// Copies the `n` bits of `src` from the place `from` on to the place `to` of `dst`, and changes no other bit.
-pub fn copy_bits(dst: &mut [u8], to: usize, src: &[u8], from: usize, n: usize)
+// Copies the `n` true bits of `src` from the place `from` on to the place `to` of `dst`, and changes no other bit.
+pub fn copy_bits(dst: &mut [u8], to: usize, src: &[u8], phase: Phase, from: usize, n: usize)
     requires { ⌜ (to + n ≤ 8 * length (now dst)) × (from + n ≤ 8 * length (now src)) × (to + n < 2 ^ 64) × (from + n < 2 ^ 64) ⌝ }
-    ensures { λ _. ⌜ unpack (now (dst .exit)) ≡ put to (cut from n (unpack (now (src .entry)))) (unpack (now (dst .entry))) ⌝ }
+    ensures { λ _. ⌜ unpack (now (dst .exit)) ≡ put to (cut from n (trueBits phase (now (src .entry)))) (unpack (now (dst .entry))) ⌝ }
 {
     let mut done: usize = 0;
     while done < n {
         let k = least(n - done, 57);
-        let v = bits::field(src, from + done, k);
+        let v = bits::field(src, phase, from + done, k);
         put_field(dst, to + done, k, v);
         done += k;
     }
 }
 
-// Makes the first bytes of `dst` those that the `n` bits of `src` from the place `from` on make, the last one filled up with
+// Makes the first bytes of `dst` those that the `n` true bits of `src` from the place `from` on make, the last one filled up with
 // zeros, and changes no other byte.
-pub fn pack_bits(dst: &mut [u8], src: &[u8], from: usize, n: usize)
+pub fn pack_bits(dst: &mut [u8], src: &[u8], phase: Phase, from: usize, n: usize)
     requires { ⌜ (bytesFor n ≤ length (now dst)) × (from + n ≤ 8 * length (now src)) × (from + n < 2 ^ 63) ⌝ }
-    ensures { λ _. ⌜ now (dst .exit) ≡ put 0 (pack (cut from n (unpack (now (src .entry))))) (now (dst .entry)) ⌝ }
+    ensures { λ _. ⌜ now (dst .exit) ≡ put 0 (pack (cut from n (trueBits phase (now (src .entry))))) (now (dst .entry)) ⌝ }
 {
-    copy_bits(dst, 0, src, from, n);
+    copy_bits(dst, 0, src, phase, from, n);
     put_field(dst, n, (8 - n % 8) % 8, 0);
 }

@@ -4,6 +4,7 @@ use mathlib.Core.Bool.{Bool, true, false, not}
 use mathlib.Core.List.{List}
 use Prim.Native.Nat.{ℕ, _<_}
 use lib.ListN.{length, getD}
+use Rattle.bits.specs.declared.Phase.{Phase}
 use Rattle.bits.specs.Bits.{recorded}
 use Rattle.format.specs.declared.Answer.{Answer}
 use Rattle.format.specs.declared.Answer.the-variants.{Passed, Refused}
@@ -18,6 +19,7 @@ use Rattle.format.specs.Standing.{checkPasses, stringTests}
 use Rattle.format.specs.Tests.{when, _then_, placeTests}
 use Rattle.format.specs.Writing.{ReadPromise}
 use Rattle.format.proofs.Order.{refused-then, passed-then, when-yes, when-no}
+use Rattle.format.proofs.Phases.{reads-straight}
 use Rattle.format.proofs.Theorems.{read-back, read-numbered, reading-covered}
 use Rattle.standing.specs.declared.Frame.{Frame}
 use Rattle.standing.specs.declared.Frame.the-variants.{Framed}
@@ -45,20 +47,20 @@ module _ (u : List Bool) (p : ℕ) {f : Frame} (e : f ≡ frameAt u p) where
   frame-checked kind long k = by-frame (Framed kind long) k
 
 -- ---- 1, 2, 3, then the string
-module _ (s : List ℕ) (n p : ℕ) {a : Answer} (e : a ≡ placeTests (length s) n p) where
-  pub place-refuses : (x : Refusal) → a ≡ Refused x → refused x ≡ reading s n p
+module _ (φ : Phase) (s : List ℕ) (n p : ℕ) {a : Answer} (e : a ≡ placeTests (length s) n p) where
+  pub place-refuses : (x : Refusal) → a ≡ Refused x → refused x ≡ reading φ s n p
   unfolding reading
   place-refuses x f =
-      let r = recordAt (recorded s n) p in
+      let r = recordAt (recorded φ s n) p in
       ap (λ (z : Answer). beside z r) (sym (refused-then x _))
-      ∙ ap (λ (z : Answer). beside (z then stringTests (recorded s n) p then fieldTests r) r) (sym f ∙ e)
+      ∙ ap (λ (z : Answer). beside (z then stringTests (recorded φ s n) p then fieldTests r) r) (sym f ∙ e)
 
-  pub place-passes-on : a ≡ Passed → stringRead (recorded s n) p ≡ reading s n p
+  pub place-passes-on : a ≡ Passed → stringRead (recorded φ s n) p ≡ reading φ s n p
   unfolding reading stringRead
   place-passes-on f =
-      let r = recordAt (recorded s n) p in
+      let r = recordAt (recorded φ s n) p in
       ap (λ (z : Answer). beside z r) (sym (passed-then _))
-      ∙ ap (λ (z : Answer). beside (z then stringTests (recorded s n) p then fieldTests r) r) (sym f ∙ e)
+      ∙ ap (λ (z : Answer). beside (z then stringTests (recorded φ s n) p then fieldTests r) r) (sym f ∙ e)
 
 -- ---- 6, 7, 8, of what the check of the bits tells
 module _ (u : List Bool) (o place : ℕ) {t : Bool} (e : t ≡ checkPasses u o) where
@@ -78,11 +80,12 @@ module _ (u : List Bool) (o place : ℕ) {t : Bool} (e : t ≡ checkPasses u o) 
       ∙ rw er (ap (λ (x : Answer). beside x (recordAt u o)) (sym (passed-then _)) ∙ tested (sym (when-no (CheckFails place) (ap not f))))
 
 -- ---- the promise, of what is given
-pub promised : (bytes : List ℕ) (count place : ℕ) → ((i : ℕ) → getD bytes i 0 < 256) → {r : Reading} → r ≡ reading bytes count place
-    → ReadPromise bytes count place r
-promised bytes count place below e = record {
+pub promised : (φ : Phase) (bytes : List ℕ) (count place : ℕ) → ((i : ℕ) → getD bytes i 0 < 256) → {r : Reading}
+    → r ≡ reading φ bytes count place → ReadPromise φ bytes count place r
+promised φ bytes count place below e = record {
   answered = e;
-  numbered = ap (λ (x : Reading). answerCode (x .answer)) e ∙ read-numbered bytes count place;
-  back = λ d. rw e (read-back bytes count place below (ap (λ (x : Reading). x .answer) (sym e) ∙ d));
-  covered = λ others l same. e ∙ sym (reading-covered bytes others count place l same);
+  numbered = ap (λ (x : Reading). answerCode (x .answer)) e ∙ read-numbered φ bytes count place;
+  straight = e ∙ reads-straight φ bytes count below place;
+  back = λ d. rw e (read-back φ bytes count place below (ap (λ (x : Reading). x .answer) (sym e) ∙ d));
+  covered = λ others l same. e ∙ sym (reading-covered φ bytes others count place l same);
 }

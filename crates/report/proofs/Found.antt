@@ -7,7 +7,8 @@ use native.Mathlib.Decide.{decLe}
 use native.Mathlib.Omega.{arith}
 use lib.ListN.{length, length-append, take, drop, getD}
 use lib.Seq.{take-at, getD-take}
-use Rattle.bits.proofs.Bytes.{length-recorded}
+use Rattle.bits.specs.declared.Phase.the-variants.{Straight}
+use Rattle.bits.proofs.Phases.{length-recorded}
 use Rattle.format.specs.Tests.{bitLimit, Passes}
 use Rattle.format.specs.Demand3.{In, ListPromise}
 use Rattle.format.specs.Listing.{starts, listAfter}
@@ -35,7 +36,7 @@ in-list (x ∷ xs) (suc i) h = inr (in-list xs i (omega arith))
 -- ---- how long a report is
 module _ (bytes : List ℕ) where
   bits-length : length (allBits bytes) ≡ 8 * length bytes
-  bits-length = length-recorded bytes (8 * length bytes) (omega arith)
+  bits-length = length-recorded Straight bytes (8 * length bytes) (omega arith)
 
   starts-few : 125 * length (starts (allBits bytes)) ≤ 8 * length bytes
   starts-few = omega (arith, few (allBits bytes), bits-length)
@@ -60,7 +61,7 @@ pub record Found (bytes list : List ℕ) (n : ℕ) : Type 0 where
   pub inside : Inside bytes list n
   pub few-starts : 125 * n ≤ 8 * length bytes
 
-module _ (bytes before list : List ℕ) (answer : Outcome) (p : ListPromise bytes (8 * length bytes) before answer list)
+module _ (bytes before list : List ℕ) (answer : Outcome) (p : ListPromise Straight bytes (8 * length bytes) before answer list)
     (h : Within bytes) (room : length before ≡ startsMost) where
   passes : Passes bytes (8 * length bytes)
   passes = record { short-enough = h; in-bytes = omega arith }

@@ -11,8 +11,10 @@ use lib.ListN.{length, length-append, take, drop, getD}
 use lib.Pow.{pow-mono}
 use lib.Seq.{take-suc, take-all, length-take-le}
 use borrow.Author.Tests.{lt-ltb, le-ltb}
+use Rattle.bits.specs.declared.Phase.the-variants.{Straight}
 use Rattle.bits.specs.Bits.{number, unpack, cut, Covers}
-use Rattle.bits.proofs.Bytes.{length-unpack, cut-recorded, part-bits}
+use Rattle.bits.proofs.Bytes.{length-unpack}
+use Rattle.bits.proofs.Phases.{cut-recorded, part-bits}
 use Rattle.bits.proofs.Numbers.{number-cut-lt}
 use Rattle.format.specs.Answers.{answerCode}
 use Rattle.format.specs.Tests.{bitLimit}
@@ -46,8 +48,8 @@ module _ (bytes : List ℕ) (p : ℕ) (h : p + 50 ≤ 8 * length bytes) where
       let e : p % 8 + first - 1 ≡ p % 8 + (first - 1) = omega arith in
       let n = last + 1 - first in
       ap number
-      (ap (λ (i : ℕ). cut i n part) e ∙ part-bits bytes p 50 (first - 1) n (p + first - 1) (omega arith) (omega arith)
-      ∙ sym (cut-recorded (p + first - 1) n (8 * length bytes) bytes (omega arith)))
+      (ap (λ (i : ℕ). cut i n part) e ∙ part-bits bytes p 50 Straight (first - 1) n (p + first - 1) (omega arith) (omega arith)
+      ∙ sym (cut-recorded Straight (p + first - 1) n (8 * length bytes) bytes (omega arith)))
 
   service-part : serviceNumbers part (p % 8) ≡ serviceNumbers (allBits bytes) p
   unfolding serviceNumbers typeAt
@@ -60,7 +62,7 @@ module _ (bytes : List ℕ) (p : ℕ) (h : p + 50 ≤ 8 * length bytes) where
       rw (s13, s19, s32, s34, s35) refl
 
   pub line-is : {service : List ℕ} {result : ℕ} → service ≡ serviceNumbers part (p % 8)
-      → result ≡ answerCode (reading bytes (8 * length bytes) p .answer) .0
+      → result ≡ answerCode (reading Straight bytes (8 * length bytes) p .answer) .0
       → row (p ∷ getD service 0 0 ∷ getD service 1 0 ∷ getD service 2 0 ∷ getD service 3 0 ∷ getD service 4 0 ∷ result ∷ []) ≡ line bytes p
   unfolding line serviceNumbers
   line-is e r = rw (e ∙ service-part, r) refl

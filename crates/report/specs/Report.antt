@@ -1,8 +1,10 @@
--- The text that the program `list` prints (document 01, "Starred and plain examples"). Assumes nothing.
+-- The text that the program `list` prints (document 01, "Starred and plain examples"), of a recording that is always straight (document 02,
+-- U2). Assumes nothing.
 use mathlib.Core.Bool.{Bool, cond}
 use mathlib.Core.List.{List, [], _∷_, _++_}
 use Prim.Native.Nat.{ℕ, _*_}
 use lib.ListN.{length}
+use Rattle.bits.specs.declared.Phase.the-variants.{Straight}
 use Rattle.bits.specs.Bits.{number, recorded}
 use Rattle.format.specs.Answers.{answerCode}
 use Rattle.format.specs.Tests.{bitLimit, above}
@@ -23,7 +25,7 @@ refusedLine = 114 ∷ 101 ∷ 102 ∷ 117 ∷ 115 ∷ 101 ∷ 100 ∷ 44 ∷ 49 
 
 -- The bits of all bytes.
 abbrev pub allBits : List ℕ → List Bool
-allBits bytes = recorded bytes (8 * length bytes)
+allBits bytes = recorded Straight bytes (8 * length bytes)
 
 -- Type, j, KP, A and OMB of the string at a place, straight from the bits.
 unfoldable pub serviceNumbers : List Bool → ℕ → List ℕ
@@ -34,7 +36,7 @@ serviceNumbers bits place =
 -- The line of a start: the place; type, j, KP, A and OMB; and reading's number, 0 if read.
 unfoldable pub line : List ℕ → ℕ → List ℕ
 line bytes place =
-    row (place ∷ (serviceNumbers (allBits bytes) place ++ (answerCode (reading bytes (8 * length bytes) place .answer) .0 ∷ [])))
+    row (place ∷ (serviceNumbers (allBits bytes) place ++ (answerCode (reading Straight bytes (8 * length bytes) place .answer) .0 ∷ [])))
 
 -- A line for each start.
 unfoldable pub lines : List ℕ → List ℕ → List ℕ

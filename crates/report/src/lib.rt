@@ -1,10 +1,12 @@
 // The text that the program `list` prints of a recording, put into a lent buffer. What that text is, `specs/` says.
+use bits::Phase;
 use format::Limits;
 use format::Outcome;
 ghost use mathlib.Core.Path.{_≡_};
 ghost use mathlib.Core.List.{List};
 ghost use Prim.Native.Nat.{ℕ, _+_, _*_, _≤_, _<_};
 ghost use lib.ListN.{length, take};
+ghost use Rattle.bits.specs.declared.Phase.the-variants.{Straight};
 ghost use Rattle.bits.specs.Bits.{number, unpack, Covers};
 ghost use Rattle.format.specs.Answers.{answerCode};
 ghost use Rattle.format.specs.Reading.{reading};
@@ -26,9 +28,9 @@ pub const REPORT: usize = 34 + text::LINE * STARTS;
 // The number that reading answers at a place.
 fn result_at(rec: &[u8], place: usize) -> u32
     requires { ⌜ Within (now rec) ⌝ }
-    ensures { λ r. ⌜ r ≡ answerCode (reading (now (rec .entry)) (8 * length (now (rec .entry))) place .answer) .0 ⌝ }
+    ensures { λ r. ⌜ r ≡ answerCode (reading Straight (now (rec .entry)) (8 * length (now (rec .entry))) place .answer) .0 ⌝ }
 {
-    let found = reading::read(rec, 8 * rec.len(), place);
+    let found = reading::read(rec, 8 * rec.len(), Phase::Straight, place);
     let answer = found.answer;
     answers::answer_number(answer)
 }
@@ -39,7 +41,7 @@ fn field(part: &[u8], offset: usize, first: usize, last: usize) -> u32
     requires { ⌜ Covers (now part) offset 50 × (0 < first) × (first ≤ last) × (last ≤ 50) × (last < first + 32) ⌝ }
     ensures { λ r. ⌜ r ≡ number (stringBits (unpack (now (part .entry))) offset first last) ⌝ }
 {
-    bits::field(part, offset + first - 1, last + 1 - first) as u32
+    bits::field(part, Phase::Straight, offset + first - 1, last + 1 - first) as u32
 }
 
 // Type, j, KP, A and OMB of the string at the place `offset`, from the bytes that its first 50 bits cover.
@@ -105,7 +107,7 @@ fn put_listing(rec: &[u8], out: &mut [u8]) -> usize
     ensures { λ r. ⌜ Wrote (listed (now (rec .entry))) 0 (now (out .entry)) (now (out .exit)) r ⌝ }
 {
     let mut found = [0u32; STARTS];
-    let listed = listing::list(rec, 8 * rec.len(), &mut found);
+    let listed = listing::list(rec, 8 * rec.len(), Phase::Straight, &mut found);
     let Outcome::Given(n) = listed else {
         return 0;
     };

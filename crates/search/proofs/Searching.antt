@@ -8,8 +8,9 @@ use native.Mathlib.Decide.{decLt}
 use native.Mathlib.Omega.{arith}
 use lib.Count.{leadingZeros}
 use lib.ListN.{length, take, drop, length-take, length-drop}
-use Rattle.bits.specs.Bits.{number, bits, unpack, recorded, cut, bitAt}
-use Rattle.bits.proofs.Bytes.{length-unpack, length-recorded, cut-recorded}
+use Rattle.bits.specs.declared.Phase.{Phase}
+use Rattle.bits.specs.Bits.{number, bits, trueBits, recorded, cut, bitAt}
+use Rattle.bits.proofs.Phases.{length-true, length-recorded, cut-recorded}
 use Rattle.bits.proofs.Lists.{length-cut, cut-cut}
 use Rattle.bits.proofs.Numbers.{number-injective, bits-back}
 use Rattle.bits.proofs.Words.{at-shl, no-ones, first-one, before-first}
@@ -75,37 +76,38 @@ module _ (u : List Bool) where
           here = λ _. here .1;
         }
 
-module _ (s : List ℕ) (n : ℕ) (h : n ≤ 8 * length s) where
+module _ (φ : Phase) (s : List ℕ) (n : ℕ) (h : n ≤ 8 * length s) where
   abbrev u : List Bool
-  u = recorded s n
+  u = recorded φ s n
 
-  mark-number : (p : ℕ) → MarkAt u p → number (cut p 12 (unpack s)) ≡ 0x5F1
+  mark-number : (p : ℕ) → MarkAt u p → number (cut p 12 (trueBits φ s)) ≡ 0x5F1
   unfolding MarkAt
   mark-number p m =
-      let l : p + 12 ≤ n = omega (arith, mark-fits u p m, length-recorded s n h) in
-      ap number (sym (cut-recorded p 12 n s l) ∙ sym (string-bits u p 12) ∙ m)
+      let l : p + 12 ≤ n = omega (arith, mark-fits u p m, length-recorded φ s n h) in
+      ap number (sym (cut-recorded φ p 12 n s l) ∙ sym (string-bits u p 12) ∙ m)
 
-  number-mark : (p : ℕ) → p + 12 ≤ n → number (cut p 12 (unpack s)) ≡ 0x5F1 → MarkAt u p
+  number-mark : (p : ℕ) → p + 12 ≤ n → number (cut p 12 (trueBits φ s)) ≡ 0x5F1 → MarkAt u p
   unfolding MarkAt
   number-mark p l e =
-      string-bits u p 12 ∙ cut-recorded p 12 n s l
-      ∙ number-injective (cut p 12 (unpack s)) mark (length-cut p 12 (unpack s) (omega (arith, length-unpack s))) e
+      string-bits u p 12 ∙ cut-recorded φ p 12 n s l
+      ∙ number-injective (cut p 12 (trueBits φ s)) mark (length-cut p 12 (trueBits φ s) (omega (arith, length-true φ s))) e
 
   module _ (from : ℕ) where
     -- one place more
-    pub free-more : (p v : ℕ) → MarkFree u from p → v ≡ number (cut p 12 (unpack s)) → (v ≡ 0x5F1 → ⊥) → MarkFree u from (p + 1)
+    pub free-more : (p v : ℕ) → MarkFree u from p → v ≡ number (cut p 12 (trueBits φ s)) → (v ≡ 0x5F1 → ⊥) → MarkFree u from (p + 1)
     unfolding MarkFree
     free-more p v c e z i f t m =
         elim (decLt i p) [
           | yes l ↦ c i f l m
-          | no l ↦ let g : i ≡ p = omega arith in z (e ∙ ap (λ (k : ℕ). number (cut k 12 (unpack s))) (sym g) ∙ mark-number i m)
+          | no l ↦ let g : i ≡ p = omega arith in z (e ∙ ap (λ (k : ℕ). number (cut k 12 (trueBits φ s))) (sym g) ∙ mark-number i m)
         ]
 
-    pub next-here : (p v : ℕ) → MarkFree u from p → from ≤ p → p + 12 ≤ n → v ≡ number (cut p 12 (unpack s)) → v ≡ 0x5F1 → NextMark u from p
+    pub next-here : (p v : ℕ) → MarkFree u from p → from ≤ p → p + 12 ≤ n → v ≡ number (cut p 12 (trueBits φ s)) → v ≡ 0x5F1
+        → NextMark u from p
     unfolding MarkFree
     next-here p v c f l e z = record {
       past = f;
-      within = omega (arith, length-recorded s n h);
+      within = omega (arith, length-recorded φ s n h);
       none-before = c;
       here = λ _. number-mark p l (sym e ∙ z);
     }
@@ -114,27 +116,27 @@ module _ (s : List ℕ) (n : ℕ) (h : n ≤ 8 * length s) where
     unfolding MarkFree
     next-end p c f l = record {
       past = f;
-      within = omega (arith, length-recorded s n h);
-      none-before = λ i a b m. c i a (omega (arith, mark-fits u i m, length-recorded s n h)) m;
-      here = λ a. absurd (omega (arith, length-recorded s n h));
+      within = omega (arith, length-recorded φ s n h);
+      none-before = λ i a b m. c i a (omega (arith, mark-fits u i m, length-recorded φ s n h)) m;
+      here = λ a. absurd (omega (arith, length-recorded φ s n h));
     }
 
   -- the hits of a word are those of its bits of the recording
-  pub hits-word : (q w g : ℕ) → q + 64 ≤ n → w ≡ number (cut q 64 (unpack s)) → Hits (bits 64 w) 0 53 g → Hits u q 53 g
+  pub hits-word : (q w g : ℕ) → q + 64 ≤ n → w ≡ number (cut q 64 (trueBits φ s)) → Hits (bits 64 w) 0 53 g → Hits u q 53 g
   unfolding Hits MarkAt
   hits-word q w g l e f i = (λ t. let m = f i .0 t in (m .0, sym (same (m .0)) ∙ m .1), λ m. f i .1 (m .0, same (m .0) ∙ m .1))
     where
-      window : bits 64 w ≡ cut q 64 (unpack s)
-      window = ap (bits 64) e ∙ bits-back 64 (cut q 64 (unpack s)) (length-cut q 64 (unpack s) (omega (arith, length-unpack s)))
+      window : bits 64 w ≡ cut q 64 (trueBits φ s)
+      window = ap (bits 64) e ∙ bits-back 64 (cut q 64 (trueBits φ s)) (length-cut q 64 (trueBits φ s) (omega (arith, length-true φ s)))
 
       same : i < 53 → stringBits (bits 64 w) (0 + i) 1 12 ≡ stringBits u (q + i) 1 12
       same m =
           let k : q + (0 + i) ≡ q + i = omega arith in
-          string-bits (bits 64 w) (0 + i) 12 ∙ ap (cut (0 + i) 12) window ∙ cut-cut (0 + i) 12 q 64 (unpack s) (omega arith)
-          ∙ ap (λ (x : ℕ). cut x 12 (unpack s)) k ∙ sym (cut-recorded (q + i) 12 n s (omega arith)) ∙ sym (string-bits u (q + i) 12)
+          string-bits (bits 64 w) (0 + i) 12 ∙ ap (cut (0 + i) 12) window ∙ cut-cut (0 + i) 12 q 64 (trueBits φ s) (omega arith)
+          ∙ ap (λ (x : ℕ). cut x 12 (trueBits φ s)) k ∙ sym (cut-recorded φ (q + i) 12 n s (omega arith)) ∙ sym (string-bits u (q + i) 12)
 
   -- `marks(word_at(rec, p / 8)) << (p % 8)`
-  pub hits-at : (p w g : ℕ) → p + 64 ≤ n → w ≡ number (cut (8 * (p / 8)) 64 (unpack s)) → Hits (bits 64 w) 0 53 g
+  pub hits-at : (p w g : ℕ) → p + 64 ≤ n → w ≡ number (cut (8 * (p / 8)) 64 (trueBits φ s)) → Hits (bits 64 w) 0 53 g
       → Hits u p (53 - p % 8) (g * 2 ^ (p % 8) % 2 ^ 64)
   hits-at p w g l e f =
       hits-shl u (8 * (p / 8)) 53 (p % 8) p (53 - p % 8) g (omega arith) (omega arith) (hits-word (8 * (p / 8)) w g (omega arith) e f)

@@ -1,8 +1,9 @@
 // The search for the next time mark in a recording.
+use bits::Phase;
 ghost use Prim.Native.Nat.{_*_, _^_, _<_, _≤_};
 ghost use lib.ListN.{length};
 ghost use Rattle.bits.specs.Bits.{bits, recorded};
-ghost use Rattle.search.specs.Search.{NextMark, MarkFree, Hits};
+ghost use Rattle.search.specs.Search.{NextMark, Hits};
 
 // The places of the mark 0101 1111 0001 in the 64 bits of a word, as ones at these places: `rise`, `ones` and `zeros` have a one where
 // 01, 11 and 00 begin, and `first`, `second` and `third` where the mark's fours do.
@@ -20,29 +21,14 @@ fn marks(word: u64) -> u64
     first & (second << 4) & (third << 8)
 }
 
-// A byte up to which no place from the byte `first` on has the mark: word by word, 48 places of each, as long as they have none.
-fn free_to(rec: &[u8], count: usize, first: usize) -> usize
-    requires { ⌜ (count < 2 ^ 32) × (count ≤ 8 * length (now rec)) × (8 * first ≤ count) ⌝ }
-    ensures { λ r. ⌜ (first ≤ r) × (8 * r ≤ count) × MarkFree (recorded (now (rec .entry)) count) (8 * first) (8 * r) ⌝ }
-{
-    let mut i = first;
-    while 8 * i + 64 <= count {
-        if marks(bits::word_at(rec, i)) != 0 {
-            return i;
-        }
-        i += 6;
-    }
-    i
-}
-
 // The first place from `from` on with the mark, or the bit count, place by place.
-fn mark_from(rec: &[u8], count: usize, from: usize) -> usize
+fn mark_from(rec: &[u8], count: usize, phase: Phase, from: usize) -> usize
     requires { ⌜ (count < 2 ^ 32) × (count ≤ 8 * length (now rec)) × (from ≤ count) ⌝ }
-    ensures { λ r. ⌜ NextMark (recorded (now (rec .entry)) count) from r ⌝ }
+    ensures { λ r. ⌜ NextMark (recorded phase (now (rec .entry)) count) from r ⌝ }
 {
     let mut p = from;
     while p + 12 <= count {
-        if bits::field(rec, p, 12) == format::MARK {
+        if bits::field(rec, phase, p, 12) == format::MARK {
             return p;
         }
         p += 1;
@@ -50,18 +36,28 @@ fn mark_from(rec: &[u8], count: usize, from: usize) -> usize
     count
 }
 
-// The first place from `from` on with the mark, or the bit count: word by word as long as the rest has a word, then place by place.
-pub fn next_mark(rec: &[u8], count: usize, from: usize) -> usize
+// The first place from `from` on with the mark, or the bit count: in the word there, then word by word, 48 places of each, as long as the
+// rest has a word, then place by place.
+pub fn next_mark(rec: &[u8], count: usize, phase: Phase, from: usize) -> usize
     requires { ⌜ (count < 2 ^ 32) × (count ≤ 8 * length (now rec)) × (from ≤ count) ⌝ }
-    ensures { λ r. ⌜ NextMark (recorded (now (rec .entry)) count) from r ⌝ }
+    ensures { λ r. ⌜ NextMark (recorded phase (now (rec .entry)) count) from r ⌝ }
 {
     let mut p = from;
-    while p + 64 <= count {
-        let hits = marks(bits::word_at(rec, p / 8)) << (p % 8);
+    if from + 64 <= count {
+        let hits = marks(bits::word_at(rec, phase, from / 8)) << (from % 8);
         if hits != 0 {
-            return p + u64::leading_zeros(hits) as usize;
+            return from + u64::leading_zeros(hits) as usize;
         }
-        p = 8 * free_to(rec, count, p / 8 + 6);
+        let last = count / 8;
+        let mut i = from / 8 + 6;
+        while i + 8 <= last {
+            let hits = marks(bits::word_at(rec, phase, i));
+            if hits != 0 {
+                return 8 * i + u64::leading_zeros(hits) as usize;
+            }
+            i += 6;
+        }
+        p = 8 * i;
     }
-    mark_from(rec, count, p)
+    mark_from(rec, count, phase, p)
 }

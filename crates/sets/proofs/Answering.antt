@@ -6,6 +6,7 @@ use Prim.Native.Nat.{ℕ, _+_, _*_, _≤_, _<_}
 use native.Mathlib.Omega.{arith}
 use lib.ListN.{length, length-append, getD}
 use borrow.Author.Tests.{ltb-false}
+use Rattle.bits.specs.declared.Phase.{Phase}
 use Rattle.format.specs.declared.Answer.{Answer}
 use Rattle.format.specs.declared.Answer.the-variants.{Passed, Refused}
 use Rattle.format.specs.declared.Outcome.{Outcome}
@@ -22,30 +23,31 @@ use Rattle.format.specs.Sets.{memberTests, setWriteTests, setWriting, setWriteR
 use Rattle.format.specs.Tests.{when, _then_, giving, above, placeTests}
 use Rattle.format.specs.Writing.{string, withBits}
 use Rattle.format.proofs.Order.{passed-then, refused-then, then-pass, when-pass, giving-refuses, giving-passes}
+use Rattle.format.proofs.Phases.{set-reads-straight}
 use Rattle.format.proofs.Theorems.{set-passes, set-exact, set-read-back, set-written-back, set-covered}
 use Rattle.format.proofs.Theorems.{set-read-numbered, set-write-numbered}
 use Rattle.format.proofs.RoundTrips.{length-with, with-join}
 use Rattle.format.proofs.Sets.{TypedSet, size}
 
 -- ---- reading: where its chain of tests ends
-module _ (bytes : List ℕ) (count place : ℕ) where
+module _ (φ : Phase) (bytes : List ℕ) (count place : ℕ) where
   abbrev first : Answer
-  first = reading bytes count place .answer
+  first = reading φ bytes count place .answer
 
   abbrev second : Answer
-  second = reading bytes count (secondPlace bytes count place) .answer
+  second = reading φ bytes count (secondPlace φ bytes count place) .answer
 
   abbrev third : Answer
-  third = reading bytes count (thirdPlace bytes count place) .answer
+  third = reading φ bytes count (thirdPlace φ bytes count place) .answer
 
   abbrev set : Set
-  set = setAt bytes count place
+  set = setAt φ bytes count place
 
-  answered : (a : Answer) → (first then second then third then setTests set) ≡ a → besideSet a set ≡ setReading bytes count place
+  answered : (a : Answer) → (first then second then third then setTests set) ≡ a → besideSet a set ≡ setReading φ bytes count place
   unfolding setReading
   answered a e = ap (λ (z : Answer). besideSet z set) (sym e)
 
-  pub first-refuses : (x : Refusal) → first ≡ Refused x → besideSet (Refused x) set ≡ setReading bytes count place
+  pub first-refuses : (x : Refusal) → first ≡ Refused x → besideSet (Refused x) set ≡ setReading φ bytes count place
   first-refuses x e =
       answered (Refused x) (ap (λ (z : Answer). z then second then third then setTests set) e ∙ refused-then x _)
 
@@ -53,24 +55,25 @@ module _ (bytes : List ℕ) (count place : ℕ) where
     from-second : (first then second then third then setTests set) ≡ (second then third then setTests set)
     from-second = ap (λ (z : Answer). z then second then third then setTests set) one ∙ passed-then _
 
-    pub second-refuses : (x : Refusal) → second ≡ Refused x → besideSet (Refused x) set ≡ setReading bytes count place
+    pub second-refuses : (x : Refusal) → second ≡ Refused x → besideSet (Refused x) set ≡ setReading φ bytes count place
     second-refuses x e =
         answered (Refused x) (from-second ∙ ap (λ (z : Answer). z then third then setTests set) e ∙ refused-then x _)
 
-    pub last-tested : second ≡ Passed → (a : Answer) → (third then setTests set) ≡ a → besideSet a set ≡ setReading bytes count place
+    pub last-tested : second ≡ Passed → (a : Answer) → (third then setTests set) ≡ a → besideSet a set ≡ setReading φ bytes count place
     last-tested two a e =
         answered a (from-second ∙ ap (λ (z : Answer). z then third then setTests set) two ∙ passed-then _ ∙ e)
 
 -- ---- what reading promises, of what is given
-pub read-promised : (bytes : List ℕ) (count place : ℕ) → ((i : ℕ) → getD bytes i 0 < 256) → {r : SetReading}
-    → r ≡ setReading bytes count place → SetReadPromise bytes count place r
-read-promised bytes count place below {r} e = record {
+pub read-promised : (φ : Phase) (bytes : List ℕ) (count place : ℕ) → ((i : ℕ) → getD bytes i 0 < 256) → {r : SetReading}
+    → r ≡ setReading φ bytes count place → SetReadPromise φ bytes count place r
+read-promised φ bytes count place below {r} e = record {
   answered = e;
-  numbered = ap (λ (x : SetReading). answerCode (x .answer)) e ∙ set-read-numbered bytes count place;
-  exact = λ s. let x = set-exact bytes count place s in (λ f. x .0 (sym e ∙ f), λ t. e ∙ x .1 t);
-  back = λ d. set-read-back bytes count place (r .content) below
-      (set-exact bytes count place (r .content) .0 (sym e ∙ (λ i. record { answer = d i; content = r .content })));
-  covered = λ others l same₁ same₂ same₃. e ∙ sym (set-covered bytes others count place l same₁ same₂ same₃);
+  numbered = ap (λ (x : SetReading). answerCode (x .answer)) e ∙ set-read-numbered φ bytes count place;
+  straight = e ∙ set-reads-straight φ bytes count below place;
+  exact = λ s. let x = set-exact φ bytes count place s in (λ f. x .0 (sym e ∙ f), λ t. e ∙ x .1 t);
+  back = λ d. set-read-back φ bytes count place (r .content) below
+      (set-exact φ bytes count place (r .content) .0 (sym e ∙ (λ i. record { answer = d i; content = r .content })));
+  covered = λ others l same₁ same₂ same₃. e ∙ sym (set-covered φ bytes others count place l same₁ same₂ same₃);
 }
 
 -- ---- writing: where its chain of tests ends

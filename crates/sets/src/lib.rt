@@ -1,4 +1,5 @@
 // Ephemeris sets: three strings of types 10, 11 and 12, each where the one before it ends, read and written as one.
+use bits::Phase;
 use format::Answer;
 use format::Outcome;
 use format::Refusal;
@@ -30,10 +31,10 @@ fn refused(refusal: Refusal) -> SetReading
 }
 
 // Reads the set at a place: the answer, beside the set or a blank one.
-pub fn read(rec: &[u8], count: usize, place: usize) -> SetReading
-    ensures { λ r. ⌜ SetReadPromise (now (rec .entry)) count place r ⌝ }
+pub fn read(rec: &[u8], count: usize, phase: Phase, place: usize) -> SetReading
+    ensures { λ r. ⌜ SetReadPromise phase (now (rec .entry)) count place r ⌝ }
 {
-    let one = reading::read(rec, count, place);
+    let one = reading::read(rec, count, phase, place);
     let answer = one.answer;
     if let Answer::Refused(refusal) = answer {
         return refused(refusal);
@@ -41,7 +42,7 @@ pub fn read(rec: &[u8], count: usize, place: usize) -> SetReading
     let first = one.content;
     let long = types::length_of(first.kind);
     let second_place = place + long;
-    let two = reading::read(rec, count, second_place);
+    let two = reading::read(rec, count, phase, second_place);
     let answer = two.answer;
     if let Answer::Refused(refusal) = answer {
         return refused(refusal);
@@ -49,7 +50,7 @@ pub fn read(rec: &[u8], count: usize, place: usize) -> SetReading
     let second = two.content;
     let long = types::length_of(second.kind);
     let third_place = second_place + long;
-    let three = reading::read(rec, count, third_place);
+    let three = reading::read(rec, count, phase, third_place);
     let answer = three.answer;
     let third = three.content;
     let content = Set {

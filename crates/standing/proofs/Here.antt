@@ -8,8 +8,9 @@ use native.Mathlib.Omega.{arith}
 use lib.Arith.{digits-div, digits-mod}
 use lib.ListN.{length, take, drop}
 use borrow.Author.Tests.{lt-ltb, le-ltb, ltb-false}
-use Rattle.bits.specs.Bits.{number, unpack, recorded, cut}
-use Rattle.bits.proofs.Bytes.{length-unpack, length-recorded, cut-recorded, covered-bits}
+use Rattle.bits.specs.declared.Phase.{Phase}
+use Rattle.bits.specs.Bits.{number, trueBits, recorded, cut}
+use Rattle.bits.proofs.Phases.{length-true, length-recorded, cut-recorded, covered-bits}
 use Rattle.bits.proofs.Lists.{length-cut}
 use Rattle.bits.proofs.Numbers.{number-injective, number-cut-lt, number-cut-split}
 use Rattle.cyclic.specs.Poly.{Divides}
@@ -91,39 +92,40 @@ not-begins true n = absurd (n refl)
 not-begins false n = refl
 
 -- ---- the frame, from the first 18 bits
-module _ (s : List ℕ) (n p : ℕ) (h : n ≤ 8 * length s) where
+module _ (φ : Phase) (s : List ℕ) (n p : ℕ) (h : n ≤ 8 * length s) where
   abbrev u : List Bool
-  u = recorded s n
+  u = recorded φ s n
 
   length-u : length u ≡ n
-  length-u = length-recorded s n h
+  length-u = length-recorded φ s n h
 
   pub frame-short : n < p + 18 → Short ≡ frameAt u p
   unfolding frameAt
   frame-short k = simp (lt-ltb (length u) (p + 18) (omega (arith, length-u)))
 
-  module _ (l : p + 18 ≤ n) (v : ℕ) (e : v ≡ number (cut p 18 (unpack s))) where
+  module _ (l : p + 18 ≤ n) (v : ℕ) (e : v ≡ number (cut p 18 (trueBits φ s))) where
     -- the first 18 bits: the mark and the type
-    split : v ≡ number (cut p 12 (unpack s)) * 64 + number (cut (p + 12) 6 (unpack s))
-    split = e ∙ number-cut-split p 12 6 (unpack s) (omega (arith, length-unpack s))
+    split : v ≡ number (cut p 12 (trueBits φ s)) * 64 + number (cut (p + 12) 6 (trueBits φ s))
+    split = e ∙ number-cut-split p 12 6 (trueBits φ s) (omega (arith, length-true φ s))
 
-    last-lt : number (cut (p + 12) 6 (unpack s)) < 64
-    last-lt = number-cut-lt (p + 12) 6 (unpack s) (omega (arith, length-unpack s))
+    last-lt : number (cut (p + 12) 6 (trueBits φ s)) < 64
+    last-lt = number-cut-lt (p + 12) 6 (trueBits φ s) (omega (arith, length-true φ s))
 
-    head : v / 64 ≡ number (cut p 12 (unpack s))
-    head = ap (λ (x : ℕ). x / 64) split ∙ digits-div (number (cut p 12 (unpack s))) last-lt
+    head : v / 64 ≡ number (cut p 12 (trueBits φ s))
+    head = ap (λ (x : ℕ). x / 64) split ∙ digits-div (number (cut p 12 (trueBits φ s))) last-lt
 
     pub head-kind : v % 64 ≡ typeAt u p
     head-kind =
-        ap (λ (x : ℕ). x % 64) split ∙ digits-mod (number (cut p 12 (unpack s))) last-lt
-        ∙ sym (type-at u p ∙ ap number (cut-recorded (p + 12) 6 n s (omega arith)))
+        ap (λ (x : ℕ). x % 64) split ∙ digits-mod (number (cut p 12 (trueBits φ s))) last-lt
+        ∙ sym (type-at u p ∙ ap number (cut-recorded φ (p + 12) 6 n s (omega arith)))
 
     pub head-mark : (stringBits u p 1 12 ≡ mark → v / 64 ≡ 0x5F1) × (v / 64 ≡ 0x5F1 → stringBits u p 1 12 ≡ mark)
     head-mark = (
-      λ m. head ∙ ap number (sym (string-bits u p 12 ∙ cut-recorded p 12 n s (omega arith)) ∙ m),
+      λ m. head ∙ ap number (sym (string-bits u p 12 ∙ cut-recorded φ p 12 n s (omega arith)) ∙ m),
       λ z.
-          string-bits u p 12 ∙ cut-recorded p 12 n s (omega arith)
-          ∙ number-injective (cut p 12 (unpack s)) mark (length-cut p 12 (unpack s) (omega (arith, length-unpack s))) (sym head ∙ z),
+          string-bits u p 12 ∙ cut-recorded φ p 12 n s (omega arith)
+          ∙ number-injective (cut p 12 (trueBits φ s)) mark (length-cut p 12 (trueBits φ s) (omega (arith, length-true φ s)))
+          (sym head ∙ z),
     )
 
     -- the frame where the mark is not there
@@ -157,19 +159,20 @@ module _ (s : List ℕ) (n p : ℕ) (h : n ≤ 8 * length s) where
           (simp (le-ltb (length u) (p + lengthOf (typeAt u p)) (omega (arith, length-u, length-here))))
 
 -- ---- the check, from the bytes that a string covers
-module _ (s : List ℕ) (n p long kind : ℕ) (h : n ≤ 8 * length s) (framed : Framed kind long ≡ frameAt (recorded s n) p) where
-  said : (kind ≡ typeAt (recorded s n) p) × (long ≡ lengthOf (typeAt (recorded s n) p)) × (p + long ≤ length (recorded s n))
-  said = framed-says (recorded s n) p kind long framed
+module _ (φ : Phase) (s : List ℕ) (n p long kind : ℕ) (h : n ≤ 8 * length s) (framed : Framed kind long ≡ frameAt (recorded φ s n) p) where
+  said : (kind ≡ typeAt (recorded φ s n) p) × (long ≡ lengthOf (typeAt (recorded φ s n) p)) × (p + long ≤ length (recorded φ s n))
+  said = framed-says (recorded φ s n) p kind long framed
 
   pub fits : p + long ≤ n
-  fits = omega (arith, said .2, length-recorded s n h)
+  fits = omega (arith, said .2, length-recorded φ s n h)
 
   abbrev part : List ℕ
   part = take ((p + long + 7) / 8 - p / 8) (drop (p / 8) s)
 
-  pub check-is : (t : Bool) → (t ≡ true) ↔ Divides (generatorOf kind) (cut (p % 8) long (unpack part)) → t ≡ checkPasses (recorded s n) p
+  pub check-is : (t : Bool) → (t ≡ true) ↔ Divides (generatorOf kind) (cut (p % 8) long (trueBits φ part))
+      → t ≡ checkPasses (recorded φ s n) p
   check-is t e =
-      let b : cut (p % 8) long (unpack part) ≡ cut p long (recorded s n) =
-      covered-bits s p long ∙ sym (cut-recorded p long n s fits) in
-      check-seen (recorded s n) p t (said .0) (said .1 ∙ ap lengthOf (sym (said .0)))
+      let b : cut (p % 8) long (trueBits φ part) ≡ cut p long (recorded φ s n) =
+      covered-bits s p long φ ∙ sym (cut-recorded φ p long n s fits) in
+      check-seen (recorded φ s n) p t (said .0) (said .1 ∙ ap lengthOf (sym (said .0)))
       (subst (λ (x : List Bool). (t ≡ true) ↔ Divides (generatorOf kind) x) b e)

@@ -1,9 +1,8 @@
--- What is at a place, up to the check; and the lent tables. Assumes nothing.
+-- What is at a place, up to the check. Assumes nothing.
 use mathlib.Core.Bool.{Bool, cond, not}
 use mathlib.Core.List.{List}
 use Prim.Native.Nat.{ℕ, _+_}
 use lib.ListN.{length, drop}
-use Rattle.cyclic.specs.Tables.{Table}
 use Rattle.format.specs.declared.Answer.{Answer}
 use Rattle.format.specs.declared.Answer.the-variants.{Refused}
 use Rattle.format.specs.declared.Refusal.the-variants.{NoMark, RunsOut, CheckFails}
@@ -27,8 +26,3 @@ frameTests Short place passes = Refused (RunsOut place)
 frameTests Unmarked place passes = Refused (NoMark place)
 frameTests Beyond place passes = Refused (RunsOut place)
 frameTests (Framed type long) place passes = when (not passes) (CheckFails place)
-
--- The lent tables are those of the two generators.
-pub record Tables (t16 t24 : List ℕ) : Type 0 where
-  pub short : Table 16 0x16F63 t16
-  pub long : Table 24 0x1864CFB t24

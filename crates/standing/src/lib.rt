@@ -1,14 +1,12 @@
 // What stands at a place of a recording.
+use bits::Phase;
 ghost use mathlib.Core.Path.{_≡_};
-ghost use mathlib.Core.Bool.{true};
-ghost use mathlib.Core.Logic.{_↔_};
 ghost use Prim.Native.Nat.{_≤_};
-ghost use Rattle.bits.specs.Bits.{number, unpack, recorded, cut, Covers};
-ghost use Rattle.cyclic.specs.Poly.{Divides};
+ghost use Rattle.bits.specs.Bits.{number, trueBits, recorded, cut, Covers};
 ghost use Rattle.format.specs.Standing.{standing};
-ghost use Rattle.format.specs.Strings.{lengthOf, generatorOf};
 ghost use Rattle.format.specs.Tests.{Passes};
-ghost use Rattle.standing.specs.Frames.{frameAt, Tables};
+ghost use Rattle.types.specs.Generators.{Tables};
+ghost use Rattle.standing.specs.Frames.{frameAt};
 
 // What is at a place, up to the check: fewer than 18 bits, no mark, a string that runs past the bit count; or the type and the length of
 // a string that stands there if its check passes.
@@ -20,24 +18,24 @@ pub enum Frame {
 }
 
 // The mark and the type of the string at the place `offset` of the bytes that they cover, as a number.
-fn head_at(part: &[u8], offset: usize) -> u64
+fn head_at(part: &[u8], phase: Phase, offset: usize) -> u64
     requires { ⌜ Covers (now part) offset 18 ⌝ }
-    ensures { λ r. ⌜ r ≡ number (cut offset 18 (unpack (now (part .entry)))) ⌝ }
+    ensures { λ r. ⌜ r ≡ number (cut offset 18 (trueBits phase (now (part .entry)))) ⌝ }
 {
-    bits::field(part, offset, 18)
+    bits::field(part, phase, offset, 18)
 }
 
 // The frame at a place.
-pub fn frame_at(rec: &[u8], count: usize, place: usize) -> Frame
+pub fn frame_at(rec: &[u8], count: usize, phase: Phase, place: usize) -> Frame
     requires { ⌜ Passes (now rec) count × (place ≤ count) ⌝ }
-    ensures { λ f. ⌜ f ≡ frameAt (recorded (now (rec .entry)) count) place ⌝ }
+    ensures { λ f. ⌜ f ≡ frameAt (recorded phase (now (rec .entry)) count) place ⌝ }
 {
     if count - place < 18 {
         return Frame::Short;
     }
     let first = place / 8;
     let end = (place + 18 + 7) / 8;
-    let head = head_at(&rec[first..end], place % 8);
+    let head = head_at(&rec[first..end], phase, place % 8);
     if head / 64 != format::MARK {
         return Frame::Unmarked;
     }
@@ -49,25 +47,19 @@ pub fn frame_at(rec: &[u8], count: usize, place: usize) -> Frame
     Frame::Framed(kind, long)
 }
 
-// Whether the generator of a type divides the `long` bits of a string of that type from the place `offset` on, by the lent tables of both
-// generators. The part is just the bytes that the string covers.
-fn check_passes(part: &[u8], offset: usize, long: usize, kind: u8, t16: &[u32], t24: &[u32]) -> bool
-    requires { ⌜ Covers (now part) offset long × (long ≡ lengthOf kind) × Tables (now t16) (now t24) ⌝ }
-    ensures { λ r. ⌜ (r ≡ true) ↔ Divides (generatorOf kind) (cut offset long (unpack (now (part .entry)))) ⌝ }
-{
-    if kind == 2 {
-        types::divides(part, offset, long, kind, t24)
-    } else {
-        types::divides(part, offset, long, kind, t16)
-    }
-}
-
 // The length of the string that stands at a place, or 0. The check is taken from only the bytes that the string covers.
-pub fn standing(rec: &[u8], count: usize, place: usize, t16: &[u32], t24: &[u32]) -> usize
+pub fn standing(
+    rec: &[u8],
+    count: usize,
+    phase: Phase,
+    place: usize,
+    t16: &[u32],
+    t24: &[u32],
+) -> usize
     requires { ⌜ Passes (now rec) count × (place ≤ count) × Tables (now t16) (now t24) ⌝ }
-    ensures { λ r. ⌜ r ≡ standing (recorded (now (rec .entry)) count) place ⌝ }
+    ensures { λ r. ⌜ r ≡ standing (recorded phase (now (rec .entry)) count) place ⌝ }
 {
-    let frame = frame_at(rec, count, place);
+    let frame = frame_at(rec, count, phase, place);
     match frame {
         Frame::Short => 0,
         Frame::Unmarked => 0,
@@ -75,7 +67,7 @@ pub fn standing(rec: &[u8], count: usize, place: usize, t16: &[u32], t24: &[u32]
         Frame::Framed(kind, long) => {
             let first = place / 8;
             let end = (place + long + 7) / 8;
-            if check_passes(&rec[first..end], place % 8, long, kind, t16, t24) {
+            if types::divides(&rec[first..end], phase, place % 8, long, kind, t16, t24) {
                 long
             } else {
                 0

@@ -1,21 +1,20 @@
--- A type's length, generator and check bits by its cases: type 1, type 2, and every other. Assumes nothing.
+-- A type's length, generator and check bits by its cases: type 1, type 2, and every other; and where a string of it lies. Assumes nothing.
 use mathlib.Core.Path.{_≡_, sym, ap, _∙_, subst}
 use mathlib.Core.Bool.{Bool, true, cond}
 use mathlib.Core.List.{List}
 use mathlib.Core.Logic.{_↔_}
-use Prim.Native.Nat.{ℕ, _≤_}
+use Prim.Native.Nat.{ℕ, _+_, _*_, _≤_}
 use native.Mathlib.Decide.{ℕ-discrete}
 use native.Mathlib.Omega.{arith}
+use lib.ListN.{length}
 use borrow.Author.Tests.{eq-eqb, ne-eqb}
-use Rattle.bits.specs.Bits.{number, bits}
+use Rattle.bits.specs.Bits.{number, bits, Covers}
 use Rattle.cyclic.specs.Generators.{generator16, generator24}
 use Rattle.cyclic.specs.Poly.{Divides}
 use Rattle.cyclic.specs.Register.{degree, check}
-use Rattle.cyclic.specs.Tables.{Table}
 use Rattle.cyclic.proofs.Worked.{number16, number24}
 use Rattle.format.specs.Strings.{lengthOf, generatorOf, checkBits}
 use Rattle.format.proofs.Agree.{length-unit}
-use Rattle.types.specs.Generators.{TableOf}
 
 -- ---- lengths
 module _ (t : ℕ) where
@@ -60,26 +59,12 @@ check-other t n = ap degree (generator-other t n)
 pub check-few : (t : ℕ) → checkBits t ≤ 24
 check-few t = elim (ℕ-discrete t 2) [ yes e ↦ omega (arith, check-two t e) | no n ↦ omega (arith, check-other t n) ]
 
--- ---- tables
-abbrev Tabled : List ℕ → List Bool → Type 0
-Tabled x g = Table (degree g) (number g) x
-
-module _ (t : ℕ) {x : List ℕ} where
-  pub two-table : t ≡ 2 → Table 24 0x1864CFB x → TableOf t x
-  unfolding TableOf
-  two-table e h = subst (Tabled x) (generator-two t e) h
-
-  pub other-table : (t ≡ 2 → ⊥) → Table 16 0x16F63 x → TableOf t x
-  unfolding TableOf
-  other-table n h = subst (Tabled x) (generator-other t n) h
-
-  pub table-two : t ≡ 2 → TableOf t x → Table 24 0x1864CFB x
-  unfolding TableOf
-  table-two e h = subst (Tabled x) (sym (generator-two t e)) h
-
-  pub table-other : (t ≡ 2 → ⊥) → TableOf t x → Table 16 0x16F63 x
-  unfolding TableOf
-  table-other n h = subst (Tabled x) (sym (generator-other t n)) h
+-- ---- a string's bits in the bytes that it covers
+pub covered-run : {s : List ℕ} {offset long : ℕ} (t : ℕ) → Covers s offset long → long ≡ lengthOf t
+    → (125 ≤ long) × (offset + long ≤ 8 * length s) × (offset + long ≤ 382)
+covered-run t c e =
+    let l = length-least t _ e in
+    (l .0, omega (arith, l .0, c .last), omega (arith, l .1, c .first))
 
 -- a test by a generator is a test by the type's
 pub by-generator : {g g′ p : List Bool} {v : Bool} → g ≡ g′ → (v ≡ true) ↔ Divides g p → (v ≡ true) ↔ Divides g′ p

@@ -1,10 +1,9 @@
--- The table of a type's generator. Assumes nothing.
+-- The tables of both generators. Assumes nothing.
 use mathlib.Core.List.{List}
 use Prim.Native.Nat.{ℕ}
-use Rattle.bits.specs.Bits.{number}
 use Rattle.cyclic.specs.Tables.{Table}
-use Rattle.format.specs.Strings.{generatorOf, checkBits}
 
--- A lent table is that of the generator of a type.
-unfoldable pub TableOf : ℕ → List ℕ → Type 0
-TableOf type table = Table (checkBits type) (number (generatorOf type)) table
+-- The lent tables are those of the two generators.
+pub record Tables (t16 t24 : List ℕ) : Type 0 where
+  pub short : Table 16 0x16F63 t16
+  pub long : Table 24 0x1864CFB t24

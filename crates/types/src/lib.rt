@@ -1,6 +1,9 @@
 // What a string of a type is: its length, its check bits, its raw bits and its fields.
 pub mod rows;
 
+use bits::Phase;
+use cyclic::tables::GENERATOR16;
+use cyclic::tables::GENERATOR24;
 use format::PLACES;
 use rows::Row;
 ghost use mathlib.Core.Path.{_≡_};
@@ -9,14 +12,14 @@ ghost use mathlib.Core.List.{map};
 ghost use mathlib.Core.Logic.{_↔_};
 ghost use Prim.Native.Nat.{_+_, _*_, _^_, _<_, _≤_};
 ghost use lib.ListN.{length};
-ghost use Rattle.bits.specs.Bits.{number, unpack, cut, Covers};
+ghost use Rattle.bits.specs.Bits.{number, unpack, trueBits, cut, Covers};
 ghost use Rattle.cyclic.specs.Poly.{Divides};
 ghost use Rattle.cyclic.specs.Register.{check};
 ghost use Rattle.format.specs.Fields.{width};
 ghost use Rattle.format.specs.Strings.{lengthOf, generatorOf, checkBits};
 ghost use Rattle.format.specs.Types.{placesOf, rawCount};
 ghost use Rattle.types.specs.Rows.{Describes};
-ghost use Rattle.types.specs.Generators.{TableOf};
+ghost use Rattle.types.specs.Generators.{Tables};
 
 // The bits of a string of a type.
 pub fn length_of(kind: u8) -> usize
@@ -83,30 +86,38 @@ pub fn row_of(kind: u8) -> Row
     }
 }
 
-// Whether the generator of a type divides the `long` bits of a string of that type from the place `offset` on, by a lent table of that
-// generator. The part is just the bytes that the string covers.
-pub fn divides(part: &[u8], offset: usize, long: usize, kind: u8, table: &[u32]) -> bool
-    requires { ⌜ Covers (now part) offset long × (long ≡ lengthOf kind) × TableOf kind (now table) ⌝ }
-    ensures { λ r. ⌜ (r ≡ true) ↔ Divides (generatorOf kind) (cut offset long (unpack (now (part .entry)))) ⌝ }
+// Whether the generator of a type divides the `long` true bits of a string of that type from the place `offset` on, by the lent tables of
+// both generators. The part is just the bytes that the string covers.
+pub fn divides(
+    part: &[u8],
+    phase: Phase,
+    offset: usize,
+    long: usize,
+    kind: u8,
+    t16: &[u32],
+    t24: &[u32],
+) -> bool
+    requires { ⌜ Covers (now part) offset long × (long ≡ lengthOf kind) × Tables (now t16) (now t24) ⌝ }
+    ensures { λ r. ⌜ (r ≡ true) ↔ Divides (generatorOf kind) (cut offset long (trueBits phase (now (part .entry)))) ⌝ }
 {
     if kind == 2 {
-        cyclic::table_divides(part, offset, long, table, cyclic::tables::GENERATOR24, 24)
+        cyclic::table_divides(part, phase, offset, long, t24, GENERATOR24, 24)
     } else {
-        cyclic::table_divides(part, offset, long, table, cyclic::tables::GENERATOR16, 16)
+        cyclic::table_divides(part, phase, offset, long, t16, GENERATOR16, 16)
     }
 }
 
 // The same, by the table of that generator, which it copies.
-pub fn check_passes(part: &[u8], offset: usize, long: usize, kind: u8) -> bool
+pub fn check_passes(part: &[u8], phase: Phase, offset: usize, long: usize, kind: u8) -> bool
     requires { ⌜ Covers (now part) offset long × (long ≡ lengthOf kind) ⌝ }
-    ensures { λ r. ⌜ (r ≡ true) ↔ Divides (generatorOf kind) (cut offset long (unpack (now (part .entry)))) ⌝ }
+    ensures { λ r. ⌜ (r ≡ true) ↔ Divides (generatorOf kind) (cut offset long (trueBits phase (now (part .entry)))) ⌝ }
 {
     if kind == 2 {
         let table = cyclic::tables::table24();
-        return divides(part, offset, long, kind, &table);
+        return cyclic::table_divides(part, phase, offset, long, &table, GENERATOR24, 24);
     }
     let table = cyclic::tables::table16();
-    divides(part, offset, long, kind, &table)
+    cyclic::table_divides(part, phase, offset, long, &table, GENERATOR16, 16)
 }
 
 // The check bits of the `count` bits from the place `offset`, by the generator of a type, as a number.
@@ -116,8 +127,8 @@ pub fn check(part: &[u8], offset: usize, count: usize, kind: u8) -> u32
 {
     if kind == 2 {
         let table = cyclic::tables::table24();
-        return cyclic::table_check(part, offset, count, &table, cyclic::tables::GENERATOR24, 24);
+        return cyclic::table_check(part, offset, count, &table, GENERATOR24, 24);
     }
     let table = cyclic::tables::table16();
-    cyclic::table_check(part, offset, count, &table, cyclic::tables::GENERATOR16, 16)
+    cyclic::table_check(part, offset, count, &table, GENERATOR16, 16)
 }

@@ -3,6 +3,7 @@
 use mathlib.Core.Path.{_≡_, refl}
 use mathlib.Core.List.{List, [], _∷_, _++_}
 use Prim.Native.Nat.{ℕ}
+use Rattle.bits.specs.declared.Phase.the-variants.{Straight}
 use Rattle.bits.specs.Bits.{recorded, cut, coveredBytes}
 use Rattle.cyclic.specs.Register.{remainder}
 use Rattle.format.specs.declared.Answer.the-variants.{Passed}
@@ -20,16 +21,16 @@ use Rattle.witnesses.specs.Strings.{tb959}
 abbrev around : ℕ → List ℕ
 around x = x ∷ (tb959 ++ (x ∷ []))
 
-around-covered : coveredBytes 8 (lengthOf (typeAt (recorded (around 0) 258) 8)) (around 255)
-    ≡ coveredBytes 8 (lengthOf (typeAt (recorded (around 0) 258) 8)) (around 0)
+around-covered : coveredBytes 8 (lengthOf (typeAt (recorded Straight (around 0) 258) 8)) (around 255)
+    ≡ coveredBytes 8 (lengthOf (typeAt (recorded Straight (around 0) 258) 8)) (around 0)
 unfolding tb959 coveredBytes recorded typeAt stringBits cut lengthOf
 around-covered = refl
 
-pub around-alike : reading (around 255) 258 8 ≡ reading (around 0) 258 8
+pub around-alike : reading Straight (around 255) 258 8 ≡ reading Straight (around 0) 258 8
 unfolding tb959
-around-alike = reading-covered (around 0) (around 255) 258 8 refl around-covered
+around-alike = reading-covered Straight (around 0) (around 255) 258 8 refl around-covered
 
-pub around-reads : reading (around 0) 258 8 .answer ≡ Passed
+pub around-reads : reading Straight (around 0) 258 8 .answer ≡ Passed
 unfolding tb959 reading recorded cut stringBits typeAt lengthOf generatorOf remainder checkPasses stringTests countTests placeTests
     when _then_ fieldTests ranges inRange recordAt informationBits values minusZeros placesOf
 around-reads = refl

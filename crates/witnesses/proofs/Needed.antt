@@ -8,6 +8,7 @@ use Prim.Native.Nat.{ℕ, _+_, _≤_, _<_}
 use native.Mathlib.Decide.{decLe}
 use native.Mathlib.Omega.{arith}
 use lib.ListN.{length}
+use Rattle.bits.specs.declared.Phase.the-variants.{Straight}
 use Rattle.bits.specs.Bits.{recorded, cut}
 use Rattle.cyclic.specs.Burst.{Burst}
 use Rattle.cyclic.specs.Register.{remainder}
@@ -27,32 +28,32 @@ use Rattle.witnesses.proofs.Tests.{narrower-burst}
 -- rule finds is at or past b, so listing is nowhere in step.
 pub record OutOfStep (bytes : List ℕ) (count b : ℕ) (bs : List ℕ) : Type 0 where
   pub passes : Passes bytes count
-  pub run : Run (Stands (recorded bytes count)) count b (b ∷ bs)
-  pub alone : (place long : ℕ) → b ≤ place → place < count → (In place (b ∷ bs) → ⊥) → Stands (recorded bytes count) place long → ⊥
+  pub run : Run (Stands (recorded Straight bytes count)) count b (b ∷ bs)
+  pub alone : (place long : ℕ) → b ≤ place → place < count → (In place (b ∷ bs) → ⊥) → Stands (recorded Straight bytes count) place long → ⊥
   pub none-far : (t : ℕ) → In t (b ∷ bs) → t < b + 375
-  pub none-from : from b (starts (recorded bytes count)) ≡ []
-  pub not-in-step : InStep (Stands (recorded bytes count)) b bs (starts (recorded bytes count)) → ⊥
+  pub none-from : from b (starts (recorded Straight bytes count)) ≡ []
+  pub not-in-step : InStep (Stands (recorded Straight bytes count)) b bs (starts (recorded Straight bytes count)) → ⊥
 
-covered-count : length (recorded covered 375) ≡ 375
+covered-count : length (recorded Straight covered 375) ≡ 375
 unfolding covered recorded
 covered-count = refl
 
 -- A string stands at 0, and it covers another, which stands at 250.
-pub covering-stands : Stands (recorded covered 375) 0 375
+pub covering-stands : Stands (recorded Straight covered 375) 0 375
 unfolding covered recorded standing checkPasses stringTests when _then_ stringBits cut typeAt lengthOf generatorOf remainder
-covering-stands = standing-stands (recorded covered 375) 0 375 refl (omega arith)
+covering-stands = standing-stands (recorded Straight covered 375) 0 375 refl (omega arith)
 
-pub covered-stands : Stands (recorded covered 375) 250 125
+pub covered-stands : Stands (recorded Straight covered 375) 250 125
 unfolding covered recorded standing checkPasses stringTests when _then_ stringBits cut typeAt lengthOf generatorOf remainder
-covered-stands = standing-stands (recorded covered 375) 250 125 refl (omega arith)
+covered-stands = standing-stands (recorded Straight covered 375) 250 125 refl (omega arith)
 
 -- The rule finds the one at 0, and is at the end after it.
-pub covered-starts : starts (recorded covered 375) ≡ 0 ∷ []
+pub covered-starts : starts (recorded Straight covered 375) ≡ 0 ∷ []
 covered-starts =
-    list-all (recorded covered 375) ∙ list-stands (recorded covered 375) covering-stands
-    ∙ ap (0 ∷_) (list-end (recorded covered 375) 375 (omega (arith, covered-count)))
+    list-all (recorded Straight covered 375) ∙ list-stands (recorded Straight covered 375) covering-stands
+    ∙ ap (0 ∷_) (list-end (recorded Straight covered 375) 375 (omega (arith, covered-count)))
 
-covered-from : from 250 (starts (recorded covered 375)) ≡ []
+covered-from : from 250 (starts (recorded Straight covered 375)) ≡ []
 unfolding from decLe
 covered-from = rw covered-starts refl
 
@@ -62,7 +63,7 @@ covered-out-of-step = record {
   passes = record { short-enough = omega arith; in-bytes = omega arith };
   run = next covered-stands (ended refl);
   alone = λ p l h k out s.
-      out (inl (omega (arith, s .named, s .fits, length-unit (typeAt (recorded covered 375) p), covered-count)));
+      out (inl (omega (arith, s .named, s .fits, length-unit (typeAt (recorded Straight covered 375) p), covered-count)));
   none-far = λ t i. ⊎-elim (λ e. omega arith) (λ n. absurd n) i;
   none-from = covered-from;
   not-in-step = λ s. omega (arith, ap length (sym covered-from ∙ s .is-first));
@@ -81,10 +82,10 @@ pub record StandsAgain (was now : List Bool) (place : ℕ) : Type 0 where
   pub listed : In place (starts now)
 
 abbrev was : List Bool
-was = recorded stretched 375
+was = recorded Straight stretched 375
 
 abbrev now : List Bool
-now = recorded shortened 375
+now = recorded Straight shortened 375
 
 changed : apart 2 16 17 (stringBits was 0 1 375) (stringBits now 0 1 375) ≡ true
 unfolding stretched shortened recorded stringBits cut apart
@@ -106,7 +107,7 @@ shortened-stands : Stands now 0 125
 unfolding shortened recorded standing checkPasses stringTests when _then_ stringBits cut typeAt lengthOf generatorOf remainder
 shortened-stands = standing-stands now 0 125 refl (omega arith)
 
-pub shortened-again : StandsAgain (recorded stretched 375) (recorded shortened 375) 0
+pub shortened-again : StandsAgain (recorded Straight stretched 375) (recorded Straight shortened 375) 0
 unfolding shortened recorded
 shortened-again =
     let width : 2 ≤ checkBits (typeAt was 0) = omega (arith, check-width) in

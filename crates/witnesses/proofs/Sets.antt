@@ -4,6 +4,7 @@ use mathlib.Core.List.{List, [], _∷_, _++_, map}
 use Prim.Native.Nat.{ℕ}
 use native.Mathlib.Omega.{arith}
 use lib.ListN.{length, getD, replicate}
+use Rattle.bits.specs.declared.Phase.the-variants.{Straight}
 use Rattle.bits.specs.Bits.{recorded, cut, put, coveredBytes, pack, filled}
 use Rattle.cyclic.specs.Register.{check, remainder}
 use Rattle.format.specs.declared.Answer.the-variants.{Passed}
@@ -49,9 +50,9 @@ holds =
       third = record { numbers = refl; minus = omega arith; raw = refl; bytes = λ i. omega (arith, zero i) };
     }
 
-pub worked-reads : setReading workedBytes 753 3 ≡ record { answer = Passed; content = worked }
+pub worked-reads : setReading Straight workedBytes 753 3 ≡ record { answer = Passed; content = worked }
 worked-reads =
-    subst (λ (b : List ℕ). setReading b 753 3 ≡ record { answer = Passed; content = worked }) worked-bytes
+    subst (λ (b : List ℕ). setReading Straight b 753 3 ≡ record { answer = Passed; content = worked }) worked-bytes
     (set-written-back lent 753 3 753 worked holds worked-writes .reads)
 
 -- ---- the same set between other bytes reads alike
@@ -59,12 +60,12 @@ worked-reads =
 abbrev around : ℕ → List ℕ
 around x = x ∷ (workedBytes ++ (x ∷ []))
 
-pub around-alike : setReading (around 255) 776 11 ≡ setReading (around 0) 776 11
+pub around-alike : setReading Straight (around 255) 776 11 ≡ setReading Straight (around 0) 776 11
 unfolding workedBytes coveredBytes reading recorded cut stringBits typeAt lengthOf generatorOf remainder checkPasses stringTests countTests
     placeTests when _then_ fieldTests ranges inRange recordAt informationBits values minusZeros markOf placesOf rawCount put pack filled
-around-alike = set-covered (around 0) (around 255) 776 11 refl refl (λ one. refl) (λ one two. refl)
+around-alike = set-covered Straight (around 0) (around 255) 776 11 refl refl (λ one. refl) (λ one two. refl)
 
-pub around-reads : setReading (around 0) 776 11 .answer ≡ Passed
+pub around-reads : setReading Straight (around 0) 776 11 .answer ≡ Passed
 unfolding workedBytes setReading setTests reading recorded cut stringBits typeAt lengthOf generatorOf remainder checkPasses stringTests
     countTests placeTests when _then_ fieldTests ranges inRange recordAt informationBits values minusZeros markOf placesOf rawCount put pack
     filled
@@ -79,7 +80,7 @@ writings-answer = refl
 
 -- ---- where the strings of a set are looked for
 
-pub unlike-answer : map (λ r. answerCode (setReading unlikeBytes (r .0) 0 .answer)) unlikeReadings ≡ map (λ r. r .1) unlikeReadings
+pub unlike-answer : map (λ r. answerCode (setReading Straight unlikeBytes (r .0) 0 .answer)) unlikeReadings ≡ map (λ r. r .1) unlikeReadings
 unfolding unlikeBytes setReading setTests reading recorded cut stringBits typeAt lengthOf generatorOf remainder checkPasses stringTests
     countTests placeTests when _then_ fieldTests ranges inRange recordAt informationBits values minusZeros markOf placesOf rawCount put pack
     filled

@@ -6,6 +6,7 @@ use Prim.Native.Nat.{ℕ}
 use lib.IntN.{ℤ, pos, negsuc}
 use lib.Dec.{eqb}
 use borrow.Author.Tests.{eqb-true}
+use Rattle.bits.specs.declared.Phase.the-variants.{Straight}
 use Rattle.bits.specs.Bits.{recorded, cut}
 use Rattle.cyclic.specs.Register.{check, remainder}
 use Rattle.format.specs.declared.Reading.{Reading}
@@ -48,9 +49,9 @@ same-field found field value minus t =
 -- A row that passes its test says the truth.
 sound : (e : Example) → holds e ≡ true → Says e
 sound (checkIs type fromEnd value) t = eqb-true (checkOf type fromEnd) value t
-sound (listingIs bytes count room number value) t = same-answer (outcomeCode (listing bytes count room)) number value t
-sound (readingIs bytes count place number value) t = same-answer (answerCode (reading bytes count place .answer)) number value t
-sound (fieldIs bytes count place field value minus) t = same-field (reading bytes count place) field value minus t
+sound (listingIs bytes count room number value) t = same-answer (outcomeCode (listing Straight bytes count room)) number value t
+sound (readingIs bytes count place number value) t = same-answer (answerCode (reading Straight bytes count place .answer)) number value t
+sound (fieldIs bytes count place field value minus) t = same-field (reading Straight bytes count place) field value minus t
 sound (writingIs r bytes count place number value) t = same-answer (outcomeCode (writing bytes count place r)) number value t
 sound (daysIs n4 nt number value) t = same-answer (outcomeCode (dayCount n4 nt)) number value t
 

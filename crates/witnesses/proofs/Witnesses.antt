@@ -8,6 +8,7 @@ use Prim.Native.Nat.{ℕ, suc, _+_, _≤_, _<_}
 use native.Mathlib.Decide.{decLe}
 use native.Mathlib.Omega.{arith}
 use lib.ListN.{length}
+use Rattle.bits.specs.declared.Phase.the-variants.{Straight}
 use Rattle.bits.specs.Bits.{number, recorded, cut}
 use Rattle.cyclic.specs.Burst.{Burst}
 use Rattle.cyclic.specs.Register.{remainder}
@@ -28,42 +29,42 @@ pub across-passes : Passes across 953
 unfolding across
 across-passes = record { short-enough = omega arith; in-bytes = omega arith }
 
-across-count : length (recorded across 953) ≡ 953
+across-count : length (recorded Straight across 953) ≡ 953
 unfolding across recorded
 across-count = refl
 
-across-sure : sure (recorded across 953) 203 (328 ∷ 578 ∷ []) ≡ true
+across-sure : sure (recorded Straight across 953) 203 (328 ∷ 578 ∷ []) ≡ true
 unfolding across sure recorded front standing checkPasses stringTests when _then_ stringBits cut typeAt lengthOf generatorOf remainder
 across-sure = refl
 
-pub across-clean : Clean (Stands (recorded across 953)) 953 203 (328 ∷ 578 ∷ [])
+pub across-clean : Clean (Stands (recorded Straight across 953)) 953 203 (328 ∷ 578 ∷ [])
 across-clean =
-    subst (λ (end : ℕ). Clean (Stands (recorded across 953)) end 203 (328 ∷ 578 ∷ [])) across-count
-    (sound (recorded across 953) 203 (328 ∷ 578 ∷ []) across-sure)
+    subst (λ (end : ℕ). Clean (Stands (recorded Straight across 953)) end 203 (328 ∷ 578 ∷ [])) across-count
+    (sound (recorded Straight across 953) 203 (328 ∷ 578 ∷ []) across-sure)
 
-across-walk : walk (recorded across 953) 0 0 ≡ 61 ∷ 328 ∷ 578 ∷ []
+across-walk : walk (recorded Straight across 953) 0 0 ≡ 61 ∷ 328 ∷ 578 ∷ []
 unfolding across walk recorded front stringBits cut typeAt lengthOf generatorOf remainder
 across-walk = refl
 
-pub across-starts : starts (recorded across 953) ≡ 61 ∷ 328 ∷ 578 ∷ []
-across-starts = walked (recorded across 953) (61 ∷ 328 ∷ 578 ∷ []) across-walk
+pub across-starts : starts (recorded Straight across 953) ≡ 61 ∷ 328 ∷ 578 ∷ []
+across-starts = walked (recorded Straight across 953) (61 ∷ 328 ∷ 578 ∷ []) across-walk
 
-across-length : standing (recorded across 953) 61 ≡ 250
+across-length : standing (recorded Straight across 953) 61 ≡ 250
 unfolding across recorded front standing checkPasses stringTests when _then_ stringBits cut typeAt lengthOf generatorOf remainder
 across-length = refl
 
-pub across-lies : Across (Stands (recorded across 953)) (starts (recorded across 953)) 203
+pub across-lies : Across (Stands (recorded Straight across 953)) (starts (recorded Straight across 953)) 203
 across-lies = record {
   start = 61;
   long = 250;
   is-listed = rw across-starts (inl refl);
-  stands = standing-stands (recorded across 953) 61 250 across-length (omega arith);
+  stands = standing-stands (recorded Straight across 953) 61 250 across-length (omega arith);
   before = omega arith;
   past = omega arith;
 }
 
 -- The first start that listing gives at or past 203 is not 203.
-pub across-from : from 203 (starts (recorded across 953)) ≡ 328 ∷ 578 ∷ []
+pub across-from : from 203 (starts (recorded Straight across 953)) ≡ 328 ∷ 578 ∷ []
 unfolding from decLe
 across-from = rw across-starts refl
 
@@ -72,28 +73,29 @@ pub farthest-passes : Passes farthest 936
 unfolding farthest
 farthest-passes = record { short-enough = omega arith; in-bytes = omega arith }
 
-farthest-count : length (recorded farthest 936) ≡ 936
+farthest-count : length (recorded Straight farthest 936) ≡ 936
 unfolding farthest recorded
 farthest-count = refl
 
-farthest-sure : sure (recorded farthest 936) 61 (311 ∷ 686 ∷ 811 ∷ []) ≡ true
+farthest-sure : sure (recorded Straight farthest 936) 61 (311 ∷ 686 ∷ 811 ∷ []) ≡ true
 unfolding farthest sure recorded front standing checkPasses stringTests when _then_ stringBits cut typeAt lengthOf generatorOf remainder
 farthest-sure = refl
 
-farthest-sound : Clean (Stands (recorded farthest 936)) (length (recorded farthest 936)) 61 (311 ∷ 686 ∷ 811 ∷ [])
-farthest-sound = sound (recorded farthest 936) 61 (311 ∷ 686 ∷ 811 ∷ []) farthest-sure
+farthest-sound : Clean (Stands (recorded Straight farthest 936)) (length (recorded Straight farthest 936)) 61 (311 ∷ 686 ∷ 811 ∷ [])
+farthest-sound = sound (recorded Straight farthest 936) 61 (311 ∷ 686 ∷ 811 ∷ []) farthest-sure
 
-pub farthest-clean : Clean (Stands (recorded farthest 936)) 936 61 (311 ∷ 686 ∷ 811 ∷ [])
-farthest-clean = subst (λ (end : ℕ). Clean (Stands (recorded farthest 936)) end 61 (311 ∷ 686 ∷ 811 ∷ [])) farthest-count farthest-sound
+pub farthest-clean : Clean (Stands (recorded Straight farthest 936)) 936 61 (311 ∷ 686 ∷ 811 ∷ [])
+farthest-clean =
+    subst (λ (end : ℕ). Clean (Stands (recorded Straight farthest 936)) end 61 (311 ∷ 686 ∷ 811 ∷ [])) farthest-count farthest-sound
 
-farthest-walk : walk (recorded farthest 936) 0 0 ≡ 19 ∷ 686 ∷ 811 ∷ []
+farthest-walk : walk (recorded Straight farthest 936) 0 0 ≡ 19 ∷ 686 ∷ 811 ∷ []
 unfolding farthest walk recorded front stringBits cut typeAt lengthOf generatorOf remainder
 farthest-walk = refl
 
-pub farthest-starts : starts (recorded farthest 936) ≡ 19 ∷ 686 ∷ 811 ∷ []
-farthest-starts = walked (recorded farthest 936) (19 ∷ 686 ∷ 811 ∷ []) farthest-walk
+pub farthest-starts : starts (recorded Straight farthest 936) ≡ 19 ∷ 686 ∷ 811 ∷ []
+farthest-starts = walked (recorded Straight farthest 936) (19 ∷ 686 ∷ 811 ∷ []) farthest-walk
 
-pub farthest-from : from 61 (starts (recorded farthest 936)) ≡ farthestFirst ∷ 811 ∷ []
+pub farthest-from : from 61 (starts (recorded Straight farthest 936)) ≡ farthestFirst ∷ 811 ∷ []
 unfolding from decLe
 farthest-from = rw farthest-starts refl
 
@@ -101,8 +103,8 @@ pub farthest-distance : farthestFirst ≡ 61 + 625
 farthest-distance = refl
 
 -- Demand 3, applied to `farthest`, gives the start `farthestFirst`.
-pub farthest-step : InStep (Stands (recorded farthest 936)) 61 (311 ∷ 686 ∷ 811 ∷ []) (starts (recorded farthest 936))
-farthest-step = resync (recorded farthest 936) 61 (311 ∷ 686 ∷ 811 ∷ []) farthest-sound
+pub farthest-step : InStep (Stands (recorded Straight farthest 936)) 61 (311 ∷ 686 ∷ 811 ∷ []) (starts (recorded Straight farthest 936))
+farthest-step = resync (recorded Straight farthest 936) 61 (311 ∷ 686 ∷ 811 ∷ []) farthest-sound
 
 abbrev headOf : List ℕ → ℕ
 headOf [] = 0
@@ -113,10 +115,10 @@ farthest-first = ap headOf (sym (farthest-step .is-first) ∙ farthest-from)
 
 -- ---- `undamaged` and `damaged`: a burst in a string of each length
 abbrev pub was : List Bool
-was = recorded undamaged 755
+was = recorded Straight undamaged 755
 
 abbrev pub now : List Bool
-now = recorded damaged 755
+now = recorded Straight damaged 755
 
 -- The premises of the promise's clause `damage` for the string of `long` bits at `place`. A burst has changed it from its bit `first` to
 -- its bit `last`, counted from 0: one bit wider and the clause says nothing.

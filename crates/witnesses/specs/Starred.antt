@@ -6,6 +6,7 @@ use Prim.Native.Nat.{ℕ, _-_}
 use lib.Dec.{eqb}
 use lib.IntN.{ℤ, pos, negsuc}
 use lib.ListN.{replicate}
+use Rattle.bits.specs.declared.Phase.the-variants.{Straight}
 use Rattle.bits.specs.Bits.{number, zeros}
 use Rattle.cyclic.specs.Register.{check}
 use Rattle.format.specs.declared.Reading.{Reading}
@@ -72,9 +73,9 @@ Reads found field value minus =
 
 abbrev pub Says : Example → Type 0
 Says (checkIs type fromEnd value) = checkOf type fromEnd ≡ value
-Says (listingIs bytes count room number value) = Answers (outcomeCode (listing bytes count room)) number value
-Says (readingIs bytes count place number value) = Answers (answerCode (reading bytes count place .answer)) number value
-Says (fieldIs bytes count place field value minus) = Reads (reading bytes count place) field value minus
+Says (listingIs bytes count room number value) = Answers (outcomeCode (listing Straight bytes count room)) number value
+Says (readingIs bytes count place number value) = Answers (answerCode (reading Straight bytes count place .answer)) number value
+Says (fieldIs bytes count place field value minus) = Reads (reading Straight bytes count place) field value minus
 Says (writingIs r bytes count place number value) = Answers (outcomeCode (writing bytes count place r)) number value
 Says (daysIs n4 nt number value) = Answers (outcomeCode (dayCount n4 nt)) number value
 
@@ -119,9 +120,9 @@ sameField found field value minus =
 
 abbrev pub holds : Example → Bool
 holds (checkIs type fromEnd value) = eqb (checkOf type fromEnd) value
-holds (listingIs bytes count room number value) = sameAnswer (outcomeCode (listing bytes count room)) number value
-holds (readingIs bytes count place number value) = sameAnswer (answerCode (reading bytes count place .answer)) number value
-holds (fieldIs bytes count place field value minus) = sameField (reading bytes count place) field value minus
+holds (listingIs bytes count room number value) = sameAnswer (outcomeCode (listing Straight bytes count room)) number value
+holds (readingIs bytes count place number value) = sameAnswer (answerCode (reading Straight bytes count place .answer)) number value
+holds (fieldIs bytes count place field value minus) = sameField (reading Straight bytes count place) field value minus
 holds (writingIs r bytes count place number value) = sameAnswer (outcomeCode (writing bytes count place r)) number value
 holds (daysIs n4 nt number value) = sameAnswer (outcomeCode (dayCount n4 nt)) number value
 

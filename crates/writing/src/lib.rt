@@ -1,4 +1,5 @@
 // Writing a record as a string.
+use bits::Phase;
 use format::Answer;
 use format::Outcome;
 use format::RAW_BYTES;
@@ -36,7 +37,7 @@ fn put_raw(part: &mut [u8], to: usize, raw: [u8; RAW_BYTES], n: usize)
     if n == 0 {
         return;
     }
-    puts::copy_bits(part, to, &raw, 0, n);
+    puts::copy_bits(part, to, &raw, Phase::Straight, 0, n);
 }
 
 // Puts the string of a record, of so many bits, at the place `offset`.

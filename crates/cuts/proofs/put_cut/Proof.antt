@@ -4,6 +4,7 @@ use Prim.Native.Nat.{_+_, _≤_}
 use native.Mathlib.Omega.{arith}
 use lib.ListN.{length}
 use borrow.Author.Needs.{needs}
+use Rattle.bits.specs.declared.Phase.the-variants.{Straight}
 use Rattle.format.specs.Answers.{answerCode}
 use Rattle.format.specs.declared.Reading.{Reading}
 use Rattle.format.specs.Reading.{reading}
@@ -20,7 +21,7 @@ module _ (c : tie.After-answer-number) where
   abbrev at-start : tie.Start
   at-start = c .before .before .before .before
 
-  code-is : c .answer-number .result ≡ answerCode (reading (at-start .args .rec .now) (at-start .args .count) 0 .answer) .0
+  code-is : c .answer-number .result ≡ answerCode (reading Straight (at-start .args .rec .now) (at-start .args .count) 0 .answer) .0
   code-is = c .answer-number .ensures ∙ ap (λ (r : Reading). answerCode (r .answer) .0) (c .before .read .ensures .answered)
 
 -- after the count is put: how far it reaches, and that the buffer is as long as it was

@@ -10,8 +10,8 @@ use mir.Facts.{toZ-ofZ}
 use mir.Syntax.{w64}
 use mir.Val.{toZ, ofZ}
 use borrow.Author.Needs.{needs}
-use Rattle.bits.proofs.Bytes.{length-unpack}
-use Rattle.bits.specs.Bits.{unpack}
+use Rattle.bits.proofs.Phases.{length-true}
+use Rattle.bits.specs.Bits.{trueBits}
 use Rattle.format.proofs.Information.{marks-cover}
 use Rattle.format.specs.Fields.{width as widthOf, total}
 use Rattle.format.specs.Types.{places, placesOf}
@@ -22,11 +22,11 @@ use Rattle.fields.proofs.numbers_at.Statement.{statement}
 use Rattle.fields.proofs.numbers_at.Tie as tie
 
 abbrev Inv-loop : tie.InvT-loop
-Inv-loop part from to kind widths signs numbers₀ minus₀ at₀ i₀ numbers minus at i =
-    (i ≤ places) × ReadSoFar (unpack part) from kind numbers minus at i
+Inv-loop part phase from to kind widths signs numbers₀ minus₀ at₀ i₀ numbers minus at i =
+    (i ≤ places) × ReadSoFar (trueBits phase part) from kind numbers minus at i
 
 abbrev μ-loop : tie.MeasureT-loop
-μ-loop part from to kind widths signs numbers₀ minus₀ at₀ i₀ numbers minus at i = places - i
+μ-loop part phase from to kind widths signs numbers₀ minus₀ at₀ i₀ numbers minus at i = places - i
 
 -- In the loop: what was read so far, and where the bits of the field lie.
 module _ (c : tie.In-loop Inv-loop μ-loop) where
@@ -43,7 +43,7 @@ module _ (c : tie.In-loop Inv-loop μ-loop) where
   start = at-widths .before .before
 
   abbrev bits : List Bool
-  bits = unpack (start .args .part .now)
+  bits = trueBits (start .args .phase) (start .args .part .now)
 
   abbrev to : ℕ
   to = start .args .to
@@ -77,7 +77,7 @@ module _ (c : tie.In-loop Inv-loop μ-loop) where
   below = left-here so-far (omega (arith, ends))
 
   room : start .args .from + total (placesOf (start .args .kind)) ≤ length bits
-  room = omega (arith, length-unpack (start .args .part .now), ends, start .pre .1)
+  room = omega (arith, length-true (start .args .phase) (start .args .part .now), ends, start .pre .1)
 
 -- After the field is fetched, its number made and its bit of the mark: what is read then.
 module _ (c : tie.After-mark-bit Inv-loop μ-loop) where
@@ -107,7 +107,7 @@ row-of-requires c κs = search needs
 loop-holds : tie.Need-loop-holds Inv-loop μ-loop
 loop-holds c =
     let a = c .before .before .before .before .args in
-    (omega arith, read-start (unpack (a .part .now)) (a .from) (a .kind))
+    (omega arith, read-start (trueBits (a .phase) (a .part .now)) (a .from) (a .kind))
 
 array-read-width : tie.Need-array-read-width Inv-loop μ-loop
 array-read-width c = below c

@@ -4,6 +4,9 @@ use Rattle.l1oc.proofs.Codes.{set-reads}
 use Rattle.l1oc.proofs.l1oc_read_set.Statement.{statement}
 use Rattle.l1oc.proofs.l1oc_read_set.Tie as tie
 
+phase-of-requires : tie.Need-phase-of-requires
+phase-of-requires c κs = search needs
+
 read-requires : tie.Need-read-requires
 read-requires c κs = search needs
 
@@ -13,9 +16,10 @@ answer-code-requires c κs = search needs
 returns : tie.Need-returns
 returns c =
     let f = c .before .before in
-    let a = f .before .before .args in
+    let a = f .before .before .before .args in
     let e = c .answer-code .ensures in
-    set-reads (a .bytes .now) (a .count) (a .place) _ (c .answer-code .result) (f .read .ensures) (e .0, e .1)
+    set-reads (f .before .phase-of .ensures) (a .bytes .now) (a .count) (a .place) _ (c .answer-code .result)
+    (f .read .ensures) (e .0, e .1)
 
 pub l1oc-read-set-spec : {M : Type 1} → statement M
-l1oc-read-set-spec = tie.close (tie.spec read-requires answer-code-requires returns)
+l1oc-read-set-spec = tie.close (tie.spec phase-of-requires read-requires answer-code-requires returns)

@@ -5,7 +5,7 @@ use mathlib.Core.List.{List}
 use Prim.Native.Nat.{ℕ}
 use borrow.Author.Needs.{needs}
 use borrow.Author.Tests.{not-true, not-false}
-use Rattle.bits.specs.Bits.{unpack}
+use Rattle.bits.specs.Bits.{trueBits}
 use Rattle.format.proofs.Agree.{check-seen}
 use Rattle.format.specs.declared.Answer.{Answer}
 use Rattle.format.specs.declared.Answer.the-variants.{Passed, Refused}
@@ -22,7 +22,7 @@ module _ (c : tie.After-check-passes) where
   at-start = c .before .before
 
   abbrev u : List Bool
-  u = unpack (at-start .args .part .now)
+  u = trueBits (at-start .args .phase) (at-start .args .part .now)
 
   abbrev o : ℕ
   o = at-start .args .offset

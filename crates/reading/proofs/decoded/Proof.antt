@@ -6,8 +6,8 @@ use Prim.Native.Nat.{ℕ, _+_, _*_, _≤_}
 use native.Mathlib.Omega.{arith}
 use lib.ListN.{length, replicate}
 use borrow.Author.Needs.{needs}
-use Rattle.bits.proofs.Bytes.{length-unpack}
-use Rattle.bits.specs.Bits.{unpack, cut, put, pack}
+use Rattle.bits.proofs.Phases.{length-true}
+use Rattle.bits.specs.Bits.{trueBits, cut, put, pack}
 use Rattle.format.proofs.Agree.{length-unit}
 use Rattle.format.proofs.Information.{string-filled, raw-few}
 use Rattle.format.specs.Fields.{total}
@@ -24,7 +24,7 @@ module _ (c : tie.After-field) where
   at-start = c .before .before
 
   abbrev u : List Bool
-  u = unpack (at-start .args .part .now)
+  u = trueBits (at-start .args .phase) (at-start .args .part .now)
 
   abbrev o : ℕ
   o = at-start .args .offset
@@ -45,7 +45,7 @@ module _ (c : tie.After-field) where
   short = omega (arith, long-is, length-unit kind)
 
   bits : length u ≡ 8 * length (at-start .args .part .now)
-  bits = length-unpack (at-start .args .part .now)
+  bits = length-true (at-start .args .phase) (at-start .args .part .now)
 
   room : o + at-start .args .long ≤ 8 * length (at-start .args .part .now)
   room = omega (arith, at-start .pre .0 .last)
@@ -74,7 +74,7 @@ add-field c = search needs
 field-requires : tie.Need-field-requires
 field-requires c κs =
     let s = c .before in
-    let b = length-unpack (s .args .part .now) in
+    let b = length-true (s .args .phase) (s .args .part .now) in
     (omega arith, omega (arith, length-unit (s .args .kind), s .pre .2, s .pre .0 .last, b))
 
 raw-count-requires : tie.Need-raw-count-requires

@@ -5,7 +5,7 @@ use mathlib.Core.Path.{sym, ap, _∙_}
 use lib.ListN.{replicate}
 use borrow.Author.Needs.{needs}
 use Rattle.bits.proofs.Lists.{cut-none, put-none}
-use Rattle.bits.specs.Bits.{unpack, put, pack, filled}
+use Rattle.bits.specs.Bits.{trueBits, put, pack, filled}
 use Rattle.format.specs.Records.{rawBytes}
 use Rattle.reading.proofs.raw_at.Statement.{statement}
 use Rattle.reading.proofs.raw_at.Tie as tie
@@ -15,7 +15,7 @@ unfolding pack filled
 returns c =
     let a = c .before .before .args in
     rw (c .if1 .taken)
-    (sym (ap (λ (p : List Bool). put 0 (pack p) (replicate rawBytes 0)) (cut-none (a .from) (unpack (a .part .now)))
+    (sym (ap (λ (p : List Bool). put 0 (pack p) (replicate rawBytes 0)) (cut-none (a .from) (trueBits (a .phase) (a .part .now)))
     ∙ put-none 0 (replicate rawBytes 0)))
 
 slice-aggregate-pack-bits : tie.Need-slice-aggregate-pack-bits

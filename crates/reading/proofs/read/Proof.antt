@@ -57,13 +57,13 @@ returns : tie.Need-returns
 returns c =
     let a = c .before .before in
     let q = a .before .before in
-    promised _ _ _ (below q) (c .refused .ensures ∙ place-refuses _ _ _ (q .place-tests .ensures) _ (a .early .given .1))
+    promised _ _ _ _ (below q) (c .refused .ensures ∙ place-refuses _ _ _ _ (q .place-tests .ensures) _ (a .early .given .1))
 
 returns-2 : tie.Need-returns-2
 returns-2 c =
     let q = early (c .before) in
-    promised _ _ _ (below q)
-    (c .read-string .ensures ∙ place-passes-on _ _ _ (q .place-tests .ensures) (c .before .enum-told .given .1))
+    promised _ _ _ _ (below q)
+    (c .read-string .ensures ∙ place-passes-on _ _ _ _ (q .place-tests .ensures) (c .before .enum-told .given .1))
 
 pub read-spec : {M : Type 1} → statement M
 read-spec =

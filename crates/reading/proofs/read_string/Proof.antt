@@ -1,11 +1,12 @@
 -- `reading::read_string`: each return is where the chain of the string's tests ends. Assumes nothing.
 use mathlib.Core.Path.{_≡_, refl, sym, ap, _∙_}
+use mathlib.Core.Bool.{Bool}
 use mathlib.Core.List.{List}
 use Prim.Native.Nat.{ℕ, _+_, _≤_}
 use native.Mathlib.Omega.{arith}
 use lib.ListN.{length}
 use borrow.Author.Needs.{needs}
-use Rattle.bits.proofs.Bytes.{part-covers}
+use Rattle.bits.proofs.Phases.{part-covers}
 use Rattle.bits.specs.Bits.{recorded}
 use Rattle.format.specs.declared.Answer.the-variants.{Refused}
 use Rattle.format.specs.declared.Reading.{Reading}
@@ -39,12 +40,15 @@ module _ (c : tie.After-frame-at) where
   abbrev place : ℕ
   place = at-start .args .place
 
+  abbrev all : List Bool
+  all = recorded (at-start .args .phase) bytes count
+
   passes : Passes bytes count
   passes = at-start .pre .0
 
   ends-with : (g : Frame) (x : Refusal) {r : Reading} → r ≡ refused x
-      → frameTests g place (checkPasses (recorded bytes count) place) ≡ Refused x → c .frame-at .result ≡ g
-      → r ≡ stringRead (recorded bytes count) place
+      → frameTests g place (checkPasses all place) ≡ Refused x → c .frame-at .result ≡ g
+      → r ≡ stringRead all place
   ends-with g x er h k = er ∙ frame-refuses _ _ (c .frame-at .ensures) g x h k
 
 -- in the arm of a frame with a type and a length
@@ -61,15 +65,14 @@ module _ (c : tie.After-known-told) where
   found : f .frame-at .result ≡ Framed kind long
   found = c .before .frame .given .1
 
-  framed : Framed kind long ≡ frameAt (recorded (bytes f) (count f)) (place f)
+  framed : Framed kind long ≡ frameAt (all f) (place f)
   framed = sym found ∙ f .frame-at .ensures
 
-  says : (kind ≡ typeAt (recorded (bytes f) (count f)) (place f)) × (long ≡ lengthOf (typeAt (recorded (bytes f) (count f)) (place f)))
-      × (place f + long ≤ length (recorded (bytes f) (count f)))
+  says : (kind ≡ typeAt (all f) (place f)) × (long ≡ lengthOf (typeAt (all f) (place f))) × (place f + long ≤ length (all f))
   says = framed-says _ _ _ _ framed
 
   room : place f + long ≤ count f
-  room = fits _ _ _ _ _ (passes f .in-bytes) framed
+  room = fits _ _ _ _ _ _ (passes f .in-bytes) framed
 
   most : long ≤ 375
   most = length-least _ _ (says .1) .1
@@ -119,7 +122,7 @@ checked-requires : tie.Need-checked-requires
 checked-requires c κs =
     let k = c .before in (
       part-covers _ _ (long k) (omega (arith, room k, passes (f k) .in-bytes)),
-      says k .0 ∙ sym (part-type (bytes (f k)) (count (f k)) (place (f k)) (long k) (room k) (says k .1)),
+      says k .0 ∙ sym (part-type (at-start (f k) .args .phase) (bytes (f k)) (count (f k)) (place (f k)) (long k) (room k) (says k .1)),
       says k .1 ∙ ap lengthOf (sym (says k .0)),
     )
 
@@ -135,7 +138,7 @@ returns-3 c = let a = c .before in ends-with (a .before .before) Beyond (RunsOut
 returns-4 : tie.Need-returns-4
 returns-4 c =
     let k = c .before .before in
-    c .checked .ensures ∙ part-checked _ _ _ _ (room k) (says k .1) ∙ frame-checked _ _ (f k .frame-at .ensures) _ _ (found k)
+    c .checked .ensures ∙ part-checked _ _ _ _ _ (room k) (says k .1) ∙ frame-checked _ _ (f k .frame-at .ensures) _ _ (found k)
 
 pub read-string-spec : {M : Type 1} → statement M
 read-string-spec =

@@ -1,7 +1,7 @@
 -- `report::line_numbers`: the service fields from the bytes that they cover, and reading's number. Assumes nothing.
 use native.Mathlib.Omega.{arith}
 use borrow.Author.Needs.{needs}
-use Rattle.bits.proofs.Bytes.{part-covers}
+use Rattle.bits.proofs.Phases.{part-covers}
 use Rattle.report.proofs.Printing.{line-is}
 use Rattle.report.proofs.line_numbers.Statement.{statement}
 use Rattle.report.proofs.line_numbers.Tie as tie

@@ -21,7 +21,7 @@ module _ (c : tie.After-list) where
   bytes = at-start .args .rec .now
 
   abbrev list : List ℕ
-  list = c .list .last .1 .1 .0
+  list = c .list .last .1 .1 .1 .0
 
   short : Within bytes
   short = at-start .pre .0

@@ -9,13 +9,15 @@ use Rattle.search.proofs.mark_from.Statement.{statement}
 use Rattle.search.proofs.mark_from.Tie as tie
 
 abbrev Inv-loop : tie.InvT-loop
-Inv-loop rec count from p₀ p = (from ≤ p) × (p ≤ count) × MarkFree (recorded rec count) from p
+Inv-loop rec count phase from p₀ p = (from ≤ p) × (p ≤ count) × MarkFree (recorded phase rec count) from p
 
 abbrev μ-loop : tie.MeasureT-loop
-μ-loop rec count from p₀ p = count - p
+μ-loop rec count phase from p₀ p = count - p
 
 loop-holds : tie.Need-loop-holds Inv-loop μ-loop
-loop-holds c = let s = c .before in (search needs, search needs, free-none (recorded (s .args .rec .now) (s .args .count)) (s .args .from))
+loop-holds c =
+    let a = c .before .args in
+    (search needs, search needs, free-none (recorded (a .phase) (a .rec .now) (a .count)) (a .from))
 
 add-loop : tie.Need-add-loop Inv-loop μ-loop
 add-loop c = search needs
@@ -27,8 +29,8 @@ returns : tie.Need-returns Inv-loop μ-loop
 returns c =
     let s = c .before .before .before .before .before in
     let l = c .before .before .before .loop in
-    next-here (s .args .rec .now) (s .args .count) (s .pre .1) (s .args .from) (l .p) _ (l .inv .2) (l .inv .0) (omega arith)
-    (c .before .field .ensures) (c .if1 .taken)
+    next-here (s .args .phase) (s .args .rec .now) (s .args .count) (s .pre .1) (s .args .from) (l .p) _ (l .inv .2) (l .inv .0)
+    (omega arith) (c .before .field .ensures) (c .if1 .taken)
 
 add-p : tie.Need-add-p Inv-loop μ-loop
 add-p c = search needs
@@ -42,7 +44,7 @@ loop-again c =
     let l = c .before .before .before .loop in (
       omega arith,
       omega arith,
-      free-more (s .args .rec .now) (s .args .count) (s .pre .1) (s .args .from) (l .p) _ (l .inv .2)
+      free-more (s .args .phase) (s .args .rec .now) (s .args .count) (s .pre .1) (s .args .from) (l .p) _ (l .inv .2)
           (c .before .field .ensures) (c .if1 .left),
     )
 
@@ -50,7 +52,7 @@ returns-2 : tie.Need-returns-2 Inv-loop μ-loop
 returns-2 c =
     let s = c .before .before .before in
     let l = c .before .loop in
-    next-end (s .args .rec .now) (s .args .count) (s .pre .1) (s .args .from) (l .p) (l .inv .2) (s .pre .2) (omega arith)
+    next-end (s .args .phase) (s .args .rec .now) (s .args .count) (s .pre .1) (s .args .from) (l .p) (l .inv .2) (s .pre .2) (omega arith)
 
 pub mark-from-spec : {M : Type 1} → statement M
 mark-from-spec =

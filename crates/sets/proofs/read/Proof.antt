@@ -5,6 +5,7 @@ use Prim.Native.Nat.{ℕ, _+_, _≤_, _<_}
 use native.Mathlib.Omega.{arith}
 use lib.ListN.{getD}
 use borrow.Author.Needs.{needs}
+use Rattle.bits.specs.declared.Phase.{Phase}
 use Rattle.format.specs.declared.Answer.{Answer}
 use Rattle.format.specs.declared.Answer.the-variants.{Passed, Refused}
 use Rattle.format.specs.declared.Reading.{Reading}
@@ -37,18 +38,21 @@ module _ (c : tie.After-read) where
   abbrev count : ℕ
   count = at-start .args .count
 
+  abbrev phase : Phase
+  phase = at-start .args .phase
+
   abbrev place : ℕ
   place = at-start .args .place
 
   -- what stands at a place, read by itself, and where the three strings stand
   abbrev at : ℕ → Reading
-  at = reading bytes count
+  at = reading phase bytes count
 
   abbrev second-place : ℕ
-  second-place = secondPlace bytes count place
+  second-place = secondPlace phase bytes count place
 
   abbrev third-place : ℕ
-  third-place = thirdPlace bytes count place
+  third-place = thirdPlace phase bytes count place
 
   below : (i : ℕ) → getD bytes i 0 < 256
   below i = c .before .shared-slice-known .given i .fits
@@ -68,7 +72,7 @@ module _ (c : tie.After-length-of) where
   second-is = ap (λ (n : ℕ). place f + n) (c .length-of .ensures ∙ ap length-read (one f))
 
   room : place f + c .length-of .result ≤ bitLimit
-  room = omega (arith, second-is, read-fits _ _ _ passed, read-passes _ _ _ passed .short-enough)
+  room = omega (arith, second-is, read-fits _ _ _ _ passed, read-passes _ _ _ _ passed .short-enough)
 
 -- after the second `read`
 module _ (c : tie.After-read2) where
@@ -93,7 +97,7 @@ module _ (c : tie.After-length-of2) where
   third-is = ap₂ (λ (p n : ℕ). p + n) (second-is (s g)) (c .length-of2 .ensures ∙ ap length-read (two g))
 
   room-2 : place h + s g .length-of .result + c .length-of2 .result ≤ bitLimit
-  room-2 = omega (arith, third-is, read-fits _ _ _ passed-2, read-passes _ _ _ passed-2 .short-enough)
+  room-2 = omega (arith, third-is, read-fits _ _ _ _ passed-2, read-passes _ _ _ _ passed-2 .short-enough)
 
 -- after `first`: the third string is read, and the set is tested
 module _ (c : tie.After-first2) where
@@ -114,14 +118,14 @@ module _ (c : tie.After-first2) where
   made = record { first = r .read .result .content; second = g t .read2 .result .content; third = third .read3 .result .content }
 
   abbrev set : Set
-  set = setAt (bytes r) (count r) (place r)
+  set = setAt (phase r) (bytes r) (count r) (place r)
 
   same : made ≡ set
   same = λ i. record { first = one r i .content; second = two (g t) i .content; third = three i .content }
 
-  tests : (a : Answer) → c .first2 .result ≡ a → besideSet a set ≡ setReading (bytes r) (count r) (place r)
+  tests : (a : Answer) → c .first2 .result ≡ a → besideSet a set ≡ setReading (phase r) (bytes r) (count r) (place r)
   tests a e =
-      last-tested (bytes r) (count r) (place r) (passed (s (g t))) (passed-2 t) a
+      last-tested (phase r) (bytes r) (count r) (place r) (passed (s (g t))) (passed-2 t) a
       (sym (ap₂ _then_ (ap answer-of three) (c .before .set-tests .ensures ∙ ap setTests same)) ∙ sym (c .first2 .ensures) ∙ e)
 
 -- ---- what the code asks, in its order
@@ -139,8 +143,8 @@ returns : tie.Need-returns
 returns c =
     let a = c .before .before in
     let q = a .before .before in
-    read-promised _ _ _ (below q)
-    (c .refused .ensures ∙ first-refuses _ _ _ _ (ap answer-of (sym (one q)) ∙ a .answer .given .1))
+    read-promised _ _ _ _ (below q)
+    (c .refused .ensures ∙ first-refuses _ _ _ _ _ (ap answer-of (sym (one q)) ∙ a .answer .given .1))
 
 enum-told : tie.Need-enum-told
 enum-told c = search needs
@@ -164,9 +168,9 @@ returns-2 : tie.Need-returns-2
 returns-2 c =
     let a = c .before .before in
     let q = a .before .before in
-    read-promised _ _ _ (below (f (s q)))
+    read-promised _ _ _ _ (below (f (s q)))
     (c .refused2 .ensures
-    ∙ second-refuses _ _ _ (passed (s q)) _ (ap answer-of (sym (two q)) ∙ a .answer2 .given .1))
+    ∙ second-refuses _ _ _ _ (passed (s q)) _ (ap answer-of (sym (two q)) ∙ a .answer2 .given .1))
 
 enum-told-2 : tie.Need-enum-told-2
 enum-told-2 c = search needs
@@ -199,12 +203,12 @@ returns-3 : tie.Need-returns-3
 returns-3 c =
     let a = c .before .before in
     let q = a .before .before in
-    read-promised _ _ _ (below (r q)) (c .refused3 .ensures ∙ tests q (Refused _) (a .tested .given .1))
+    read-promised _ _ _ _ (below (r q)) (c .refused3 .ensures ∙ tests q (Refused _) (a .tested .given .1))
 
 returns-4 : tie.Need-returns-4
 returns-4 c =
     let q = c .before .before in
-    read-promised _ _ _ (below (r q)) (ap (λ (x : Set). besideSet Passed x) (same q) ∙ tests q Passed (c .enum-told3 .given .1))
+    read-promised _ _ _ _ (below (r q)) (ap (λ (x : Set). besideSet Passed x) (same q) ∙ tests q Passed (c .enum-told3 .given .1))
 
 pub read-spec : {M : Type 1} → statement M
 read-spec =

@@ -5,8 +5,9 @@ use Prim.Native.Nat.{ℕ, _+_, _*_, _/_, _≤_}
 use native.Mathlib.Omega.{arith}
 use lib.ListN.{length}
 use borrow.Author.Needs.{needs}
-use Rattle.bits.specs.Bits.{number, unpack, cut}
-use Rattle.bits.proofs.Bytes.{part-covers, covered-bits}
+use Rattle.bits.specs.declared.Phase.{Phase}
+use Rattle.bits.specs.Bits.{number, trueBits, cut}
+use Rattle.bits.proofs.Phases.{part-covers, covered-bits}
 use Rattle.standing.proofs.Here.{frame-short, frame-unmarked, frame-beyond, frame-framed}
 use Rattle.standing.proofs.frame_at.Statement.{statement}
 use Rattle.standing.proofs.frame_at.Tie as tie
@@ -22,6 +23,9 @@ module _ (c : tie.After-head-at) where
   abbrev count : ℕ
   count = at-start .args .count
 
+  abbrev phase : Phase
+  phase = at-start .args .phase
+
   abbrev place : ℕ
   place = at-start .args .place
 
@@ -31,8 +35,8 @@ module _ (c : tie.After-head-at) where
   near : place + 18 ≤ count
   near = omega arith
 
-  head-is : c .head-at .result ≡ number (cut place 18 (unpack bytes))
-  head-is = c .head-at .ensures ∙ ap number (covered-bits bytes place 18)
+  head-is : c .head-at .result ≡ number (cut place 18 (trueBits phase bytes))
+  head-is = c .head-at .ensures ∙ ap number (covered-bits bytes place 18 phase)
 
 -- ---- what the code asks, in its order
 
@@ -40,7 +44,7 @@ sub-if1 : tie.Need-sub-if1
 sub-if1 c = search needs
 
 returns : tie.Need-returns
-returns c = let s = c .before .before in frame-short _ _ _ (s .pre .0 .in-bytes) (omega arith)
+returns c = let s = c .before .before in frame-short _ _ _ _ (s .pre .0 .in-bytes) (omega arith)
 
 add-end : tie.Need-add-end
 add-end c = search needs
@@ -61,7 +65,7 @@ head-at-requires : tie.Need-head-at-requires
 head-at-requires c κs = part-covers _ _ 18 (omega arith)
 
 returns-2 : tie.Need-returns-2
-returns-2 c = let f = c .before in frame-unmarked _ _ _ (inside f) (near f) _ (head-is f) (c .if2 .taken)
+returns-2 c = let f = c .before in frame-unmarked _ _ _ _ (inside f) (near f) _ (head-is f) (c .if2 .taken)
 
 cast-kind : tie.Need-cast-kind
 cast-kind c = search needs
@@ -84,13 +88,13 @@ returns-3 : tie.Need-returns-3
 returns-3 c =
     let l = c .before in
     let f = at-head l in
-    frame-beyond _ _ _ (inside f) (near f) _ (head-is f) (marked l) _ (l .length-of .ensures) (omega arith)
+    frame-beyond _ _ _ _ (inside f) (near f) _ (head-is f) (marked l) _ (l .length-of .ensures) (omega arith)
 
 returns-4 : tie.Need-returns-4
 returns-4 c =
     let l = c .before in
     let f = at-head l in
-    frame-framed _ _ _ (inside f) (near f) _ (head-is f) (marked l) _ (l .length-of .ensures) (omega arith)
+    frame-framed _ _ _ _ (inside f) (near f) _ (head-is f) (marked l) _ (l .length-of .ensures) (omega arith)
 
 pub frame-at-spec : {M : Type 1} → statement M
 frame-at-spec =

@@ -7,7 +7,7 @@ use native.Mathlib.Omega.{arith}
 use lib.ListN.{length}
 use borrow.Author.Needs.{needs}
 use Rattle.bits.specs.Bits.{recorded}
-use Rattle.bits.proofs.Bytes.{part-covers}
+use Rattle.bits.proofs.Phases.{part-covers}
 use Rattle.format.specs.Standing.{standing}
 use Rattle.format.specs.Strings.{typeAt, lengthOf}
 use Rattle.format.specs.Tests.{bitLimit, Passes}
@@ -32,10 +32,13 @@ module _ (c : tie.After-frame-at) where
   abbrev place : ℕ
   place = at-start .args .place
 
+  abbrev all : List Bool
+  all = recorded (at-start .args .phase) bytes count
+
   passes : Passes bytes count
   passes = at-start .pre .0
 
-  frame-is : c .frame-at .result ≡ frameAt (recorded bytes count) place
+  frame-is : c .frame-at .result ≡ frameAt all place
   frame-is = c .frame-at .ensures
 
 -- in the arm of a frame with a type and a length
@@ -52,33 +55,33 @@ module _ (c : tie.After-known-told) where
   found : at-frame .frame-at .result ≡ Framed kind long
   found = c .before .frame .given .1
 
-  framed : Framed kind long ≡ frameAt (recorded (bytes at-frame) (count at-frame)) (place at-frame)
+  framed : Framed kind long ≡ frameAt (all at-frame) (place at-frame)
   framed = sym found ∙ frame-is at-frame
 
-  says : (kind ≡ typeAt (recorded (bytes at-frame) (count at-frame)) (place at-frame))
-      × (long ≡ lengthOf (typeAt (recorded (bytes at-frame) (count at-frame)) (place at-frame)))
-      × (place at-frame + long ≤ length (recorded (bytes at-frame) (count at-frame)))
+  says : (kind ≡ typeAt (all at-frame) (place at-frame))
+      × (long ≡ lengthOf (typeAt (all at-frame) (place at-frame)))
+      × (place at-frame + long ≤ length (all at-frame))
   says = framed-says _ _ _ _ framed
 
   least : (125 ≤ long) × (long ≤ 375)
   least = length-least _ _ (says .1)
 
   room : place at-frame + long ≤ count at-frame
-  room = fits _ _ _ _ _ (passes at-frame .in-bytes) framed
+  room = fits _ _ _ _ _ _ (passes at-frame .in-bytes) framed
 
   short : count at-frame ≤ bitLimit
   short = passes at-frame .short-enough
 
--- after `check_passes`
-module _ (c : tie.After-check-passes) where
+-- after `divides`
+module _ (c : tie.After-divides) where
   abbrev k : tie.After-known-told
   k = c .before .before
 
-  stands : (b : Bool) → c .check-passes .result ≡ b
-      → cond b (long k) 0 ≡ standing (recorded (bytes (at-frame k)) (count (at-frame k))) (place (at-frame k))
+  stands : (b : Bool) → c .divides .result ≡ b
+      → cond b (long k) 0 ≡ standing (all (at-frame k)) (place (at-frame k))
   stands b e =
       let f = at-frame k in
-      ap (λ (x : Bool). cond x (long k) 0) (sym e ∙ check-is _ _ _ _ _ (passes f .in-bytes) (framed k) _ (c .check-passes .ensures))
+      ap (λ (x : Bool). cond x (long k) 0) (sym e ∙ check-is _ _ _ _ _ _ (passes f .in-bytes) (framed k) _ (c .divides .ensures))
       ∙ frame-length _ _ (Framed (kind k) (long k)) (frame-is f) (found k)
 
 -- ---- what the code asks, in its order
@@ -104,17 +107,17 @@ add-end c = omega (arith, least c .1, room c, short c)
 add-end-2 : tie.Need-add-end-2
 add-end-2 c = omega (arith, least c .1, room c, short c)
 
-sub-check-passes : tie.Need-sub-check-passes
-sub-check-passes c = search needs
+sub-divides : tie.Need-sub-divides
+sub-divides c = search needs
 
-part-check-passes-start : tie.Need-part-check-passes-start
-part-check-passes-start c = search needs
+part-divides-start : tie.Need-part-divides-start
+part-divides-start c = search needs
 
-part-check-passes-end : tie.Need-part-check-passes-end
-part-check-passes-end c = omega (arith, room c, passes (at-frame c) .in-bytes)
+part-divides-end : tie.Need-part-divides-end
+part-divides-end c = omega (arith, room c, passes (at-frame c) .in-bytes)
 
-check-passes-requires : tie.Need-check-passes-requires
-check-passes-requires c κs =
+divides-requires : tie.Need-divides-requires
+divides-requires c κs =
     let k = c .before in (
       part-covers _ _ (long k) (omega (arith, room k, passes (at-frame k) .in-bytes)),
       says k .1 ∙ ap lengthOf (sym (says k .0)),
@@ -147,10 +150,10 @@ standing-spec =
     enum-known-frame
     add-end
     add-end-2
-    sub-check-passes
-    part-check-passes-start
-    part-check-passes-end
-    check-passes-requires
+    sub-divides
+    part-divides-start
+    part-divides-end
+    divides-requires
     returns
     returns-2
     returns-3

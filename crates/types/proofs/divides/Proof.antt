@@ -1,35 +1,20 @@
--- `types::divides`: the number of the generator that the type has. Assumes nothing.
-use Prim.Native.Nat.{_≤_}
+-- `types::divides`: the table and the number of the generator that the type has. Assumes nothing.
 use native.Mathlib.Omega.{arith}
-use Rattle.bits.specs.Bits.{Covers}
-use Rattle.types.proofs.Cases.{number-two, number-other, table-two, table-other, by-generator, length-least}
+use Rattle.types.proofs.Cases.{number-two, number-other, by-generator, covered-run}
 use Rattle.types.proofs.divides.Statement.{statement}
 use Rattle.types.proofs.divides.Tie as tie
 
--- where the string begins and ends
-module _ (c : tie.Start) where
-  least : 125 ≤ c .args .long
-  least = length-least _ _ (c .pre .1) .0
-
-  most : c .args .long ≤ 375
-  most = length-least _ _ (c .pre .1) .1
-
-  covered : Covers (c .args .part .now) (c .args .offset) (c .args .long)
-  covered = c .pre .0
-
--- ---- what the code asks, in its order
-
 table-divides-requires : tie.Need-table-divides-requires
 table-divides-requires c κs =
-    let s = c .before .before .before in
-    let k = covered s in
-    ((omega (arith, least s), omega (arith, least s, k .last), omega (arith, most s, k .first)), table-two _ (c .if1 .taken) (s .pre .2))
+    let p = c .before .before .before .before .pre in
+    let r = covered-run _ (p .0) (p .1) in
+    ((omega (arith, r .0), omega (arith, r .1), omega (arith, r .2)), p .2 .long)
 
 table-divides-requires-2 : tie.Need-table-divides-requires-2
 table-divides-requires-2 c κs =
-    let s = c .before .before .before in
-    let k = covered s in
-    ((omega (arith, least s), omega (arith, least s, k .last), omega (arith, most s, k .first)), table-other _ (c .if1 .left) (s .pre .2))
+    let p = c .before .before .before .before .pre in
+    let r = covered-run _ (p .0) (p .1) in
+    ((omega (arith, r .0), omega (arith, r .1), omega (arith, r .2)), p .2 .short)
 
 returns : tie.Need-returns
 returns c = by-generator (number-two _ (c .before .if1 .taken)) (c .table-divides .ensures)
