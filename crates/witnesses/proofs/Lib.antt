@@ -5,4 +5,5 @@ pub mod Needed
 pub mod Covered
 pub mod Writable
 pub mod Sets
+pub mod Phases
 pub mod Values
