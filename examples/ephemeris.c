@@ -23,7 +23,7 @@ static const struct shown shown[] = {
 /* Prints the field of the string at a place; 0 unless the string cannot be read. */
 static int print_string(const uint8_t *bytes, size_t length, size_t place)
 {
-    struct l1oc_reading reading = l1oc_read(bytes, length, 8 * length, place);
+    struct l1oc_reading reading = l1oc_read(bytes, length, 8 * length, L1OC_STRAIGHT, place);
     size_t i;
 
     if (reading.number != 0) {

@@ -29,7 +29,8 @@ static void take_recording(struct recording *recording, const char *program, con
     if (input != stdin) {
         fclose(input);
     }
-    answer = l1oc_list(recording->bytes, recording->length, 8 * recording->length, recording->starts, L1OC_MAX_STARTS);
+    answer =
+        l1oc_list(recording->bytes, recording->length, 8 * recording->length, L1OC_STRAIGHT, recording->starts, L1OC_MAX_STARTS);
     if (answer.number == L1OC_TOO_LONG) {
         fprintf(stderr, "%s: the recording is longer than %d bits\n", program, L1OC_MAX_BITS);
         exit(1);

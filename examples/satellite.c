@@ -122,7 +122,7 @@ int main(int argc, char **argv)
     for (i = 0; i < recording.strings; i++) {
         /* refused where no set stands, and where a string of it is damaged */
         struct l1oc_set_reading reading =
-            l1oc_read_set(recording.bytes, recording.length, 8 * recording.length, recording.starts[i]);
+            l1oc_read_set(recording.bytes, recording.length, 8 * recording.length, L1OC_STRAIGHT, recording.starts[i]);
 
         if (reading.number == 0 && reading.content.first.satellite == satellite) {
             print_set(&reading.content, recording.starts[i]);

@@ -86,7 +86,7 @@ int main(int argc, char **argv)
         printf("%02x%s", bytes[i], i % 16 == 15 || i == LENGTH - 1 ? "\n" : " ");
     }
 
-    reading = l1oc_read(bytes, LENGTH, 8 * LENGTH, place);
+    reading = l1oc_read(bytes, LENGTH, 8 * LENGTH, L1OC_STRAIGHT, place);
     if (reading.number != 0) {
         fprintf(stderr, "writestring: reading is refused with %" PRIu64 ", %" PRIu64 "\n", reading.number, reading.value);
         return 1;

@@ -4,6 +4,11 @@
  * A recording is `length` lent bytes of which the first `count` bits count; the high bit of a byte comes first. Places count bits from 0.
  * A string of type 1 has 125 bits, of type 2 375, of every other type 250.
  *
+ * Listing and reading take the recording's phase: straight, or inverted, where the radio loop has settled half a turn off and every bit
+ * is the opposite of the true one. They go by the true bits: an inverted recording lists and reads exactly as its complement, 255 - b
+ * for each byte b, does straight. In either phase bits past `count` do not matter, and what fills a record up is 0. Writing is always
+ * straight: it sets true bits.
+ *
  * Every function answers for every value of its numbers. What is asked of the caller: a pointer leads to as many elements as the length
  * beside it says, aligned as its type asks, and set; `bytes` and `list` share no memory; nobody else writes to them during the call.
  * Where the length is 0 nothing is read or written through the pointer, which may then be null. No function keeps a pointer, allocates,
@@ -34,6 +39,12 @@ extern "C" {
 
 /* The bits of a set: three strings of 250. */
 #define L1OC_SET_BITS 750
+
+/* The phase of a recording. A number that is neither is not refused, and counts as inverted. */
+enum l1oc_phase {
+    L1OC_STRAIGHT = 0, /* its bits are the true ones */
+    L1OC_INVERTED = 1  /* every bit is the opposite of the true one */
+};
 
 /* Why a call is refused: the numbers, each with its value and when. */
 enum l1oc_refusal {
@@ -185,8 +196,8 @@ struct l1oc_value {
 };
 
 /*
- * Lists the starts of the strings in the first `count` bits. From place 0 on: where a string stands it is listed and the next place is
- * just after it; elsewhere the next place is one bit on. A string stands where the mark is there, it fits in `count`, and its check
+ * Lists the starts of the strings in the first `count` true bits. From place 0 on: where a string stands it is listed and the next place
+ * is just after it; elsewhere the next place is one bit on. A string stands where the mark is there, it fits in `count`, and its check
  * passes.
  *
  * Gives 0 and how many starts there are. They are then the first entries of `list`, which has room for `room`; its other entries are
@@ -194,40 +205,41 @@ struct l1oc_value {
  * read.
  * Refuses, in this order, with 1, 2, 9 (room is less than the starts that there are: the value).
  */
-struct l1oc_answer l1oc_list(const uint8_t *bytes, size_t length, size_t count, uint32_t *list, size_t room);
+struct l1oc_answer l1oc_list(const uint8_t *bytes, size_t length, size_t count, uint32_t phase, uint32_t *list, size_t room);
 
 /*
- * Reads the string at a place. `bytes` is only read.
+ * Reads the string at a place, by its true bits. `bytes` is only read.
  *
- * Gives 0, 0 and the record. Writing that record at the place gives the same bytes again.
+ * Gives 0, 0 and the record. Writing that record at the place gives the true bits again: straight the same bytes; inverted, written into
+ * the complement of the bytes, 255 - b each, it changes none of them.
  * Refuses, in this order, with 1, 2, 3, 5 (fewer than 18 bits left), 4, 5 (runs past count), 6, 7, 8.
  */
-struct l1oc_reading l1oc_read(const uint8_t *bytes, size_t length, size_t count, size_t place);
+struct l1oc_reading l1oc_read(const uint8_t *bytes, size_t length, size_t count, uint32_t phase, size_t place);
 
 /*
  * Writes the string of a record at a place: its mark, fields and check bits.
  *
- * Gives 0 and the place after the string. It has set the string's bits and no others. Reading at the place gives the same record again.
- * A refusal leaves every byte as it was.
+ * Gives 0 and the place after the string. It has set the string's bits and no others. Reading straight at the place gives the same
+ * record again. A refusal leaves every byte as it was.
  * Refuses, in this order, with 1, 2, 3, 7, 8, 11, 10, 5.
  */
 struct l1oc_answer l1oc_write(uint8_t *bytes, size_t length, size_t count, size_t place, struct l1oc_record content);
 
 /*
- * Reads the set at a place: the first string there, the second where the first ends, the third where the second ends. A string of type 1
- * or 2 ends after its own 125 or 375 bits. `bytes` is only read.
+ * Reads the set at a place, by its true bits: the first string there, the second where the first ends, the third where the second ends.
+ * A string of type 1 or 2 ends after its own 125 or 375 bits. `bytes` is only read.
  *
- * Gives 0, 0 and the set. Writing that set at the place gives the same bytes again.
+ * Gives 0, 0 and the set. Writing that set at the place gives the true bits again, as with l1oc_read.
  * Refuses as l1oc_read refuses the first string, then the second, then the third, each at its own place; where all three read, with 12,
  * 13, 14, in this order.
  */
-struct l1oc_set_reading l1oc_read_set(const uint8_t *bytes, size_t length, size_t count, size_t place);
+struct l1oc_set_reading l1oc_read_set(const uint8_t *bytes, size_t length, size_t count, uint32_t phase, size_t place);
 
 /*
  * Writes the three strings of a set end to end at a place: L1OC_SET_BITS bits.
  *
- * Gives 0 and the place after them. It has set their bits and no others. Reading a set at the place gives the same set again. A refusal
- * leaves every byte as it was.
+ * Gives 0 and the place after them. It has set their bits and no others. Reading a set straight at the place gives the same set again.
+ * A refusal leaves every byte as it was.
  * Refuses, in this order, with 1, 2, 3; with 7, 8, 11, 10 for the first record, then the second, then the third; with 12, 13, 14; with 5
  * (the L1OC_SET_BITS bits would run past count).
  */

@@ -1,5 +1,5 @@
-//! Links the proved archive, `libl1oc.a`, from the folder where `rt staticlib l1oc` puts it, and takes the limits, sizes and refusal
-//! numbers from the header.
+//! Links the proved archive, `libl1oc.a`, from the folder where `rt staticlib l1oc` puts it, and takes the limits, the sizes and the
+//! numbers of phases and refusals from the header.
 
 use std::env;
 use std::fs;
@@ -21,20 +21,29 @@ fn main() {
     fs::write(path("OUT_DIR").join("header.rs"), constants(&header)).expect("header.rs");
 }
 
-/// Each `#define L1OC_NAME SIZE` and each `L1OC_NAME = NUMBER` of the enum, without the prefix, as a constant.
+/// Each `#define L1OC_NAME SIZE`, and each `L1OC_NAME = NUMBER` in a module of its enum's name, without the prefix, as a constant.
 fn constants(header: &str) -> String {
-    let (mut sizes, mut refusals) = (String::new(), String::new());
+    let (mut sizes, mut enums) = (String::new(), String::new());
+    let mut inside = false;
     for line in header.lines() {
         if let Some((name, size)) = entry(line, "#define L1OC_", " ") {
             let size = size.replace("L1OC_", "");
             sizes += &format!("pub const {name}: usize = {size};\n");
         }
+        if let Some((name, _)) = entry(line, "enum l1oc_", " {") {
+            enums += &format!("\n/// The numbers of `enum l1oc_{name}`.\npub mod {name} {{\n");
+            inside = true;
+        }
         if let Some((name, rest)) = entry(line, "    L1OC_", " = ") {
             let number: String = rest.chars().take_while(char::is_ascii_digit).collect();
-            refusals += &format!("    pub const {name}: u64 = {number};\n");
+            enums += &format!("    pub const {name}: u64 = {number};\n");
+        }
+        if inside && line == "};" {
+            enums += "}\n";
+            inside = false;
         }
     }
-    format!("{sizes}\n/// The numbers of refusals.\npub mod refusal {{\n{refusals}}}\n")
+    sizes + &enums
 }
 
 /// The name and what comes after it.

@@ -1,6 +1,6 @@
 //! Both sides behind one interface. Each call crosses the C interface, with the record or set by value.
 use crate::peer;
-use l1oc::{Answer, Reading, Record, Set, SetReading};
+use l1oc::{Answer, Phase, Reading, Record, Set, SetReading};
 
 /// A codec that is measured.
 pub trait Side {
@@ -20,12 +20,12 @@ pub struct Peer;
 impl Side for Library {
     #[inline(always)]
     fn list(bytes: &[u8], count: usize, list: &mut [u32]) -> Answer {
-        l1oc::list(bytes, count, list)
+        l1oc::list(bytes, count, Phase::Straight, list)
     }
 
     #[inline(always)]
     fn read(bytes: &[u8], count: usize, place: usize) -> Reading {
-        l1oc::read(bytes, count, place)
+        l1oc::read(bytes, count, Phase::Straight, place)
     }
 
     #[inline(always)]
@@ -35,7 +35,7 @@ impl Side for Library {
 
     #[inline(always)]
     fn read_set(bytes: &[u8], count: usize, place: usize) -> SetReading {
-        l1oc::read_set(bytes, count, place)
+        l1oc::read_set(bytes, count, Phase::Straight, place)
     }
 
     #[inline(always)]

@@ -12,8 +12,11 @@ pub mod write_set;
 
 use crate::lent::Memory;
 use crate::shrink::Shrink;
-use l1oc::Answer;
+use l1oc::{Answer, Phase};
 use std::fmt::Debug;
+
+/// The number of the phase in C.
+const STRAIGHT: u32 = Phase::Straight as u32;
 
 /// A call of a function: its input.
 pub trait Call: Clone {

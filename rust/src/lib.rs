@@ -1,6 +1,6 @@
 //! The C interface for Rust: the limits, types and functions of `include/l1oc.h`, which says what each gives.
 
-// MAX_BITS and the other limits and sizes, and `refusal` with the numbers, from the header.
+// MAX_BITS and the other limits and sizes, and `phase` and `refusal` with the numbers, from the header.
 #[allow(unused_parens)]
 mod header {
     include!(concat!(env!("OUT_DIR"), "/header.rs"));
@@ -14,6 +14,14 @@ pub use header::*;
 pub struct Answer {
     pub number: u64,
     pub value: u64,
+}
+
+/// The phase of a recording: its bits are the true ones, or every one is inverted.
+#[repr(u32)]
+#[derive(Clone, Copy, Debug, PartialEq, Eq)]
+pub enum Phase {
+    Straight = phase::STRAIGHT as u32,
+    Inverted = phase::INVERTED as u32,
 }
 
 /// A minus-zero mark: bit i, the lowest is bit 0, for field 10 + i.
@@ -111,10 +119,17 @@ pub mod c {
             bytes: *const u8,
             length: usize,
             count: usize,
+            phase: u32,
             list: *mut u32,
             room: usize,
         ) -> Answer;
-        pub fn l1oc_read(bytes: *const u8, length: usize, count: usize, place: usize) -> Reading;
+        pub fn l1oc_read(
+            bytes: *const u8,
+            length: usize,
+            count: usize,
+            phase: u32,
+            place: usize,
+        ) -> Reading;
         pub fn l1oc_write(
             bytes: *mut u8,
             length: usize,
@@ -126,6 +141,7 @@ pub mod c {
             bytes: *const u8,
             length: usize,
             count: usize,
+            phase: u32,
             place: usize,
         ) -> SetReading;
         pub fn l1oc_write_set(
@@ -142,13 +158,14 @@ pub mod c {
 }
 
 #[inline(always)]
-pub fn list(bytes: &[u8], count: usize, list: &mut [u32]) -> Answer {
+pub fn list(bytes: &[u8], count: usize, phase: Phase, list: &mut [u32]) -> Answer {
     // SAFETY: both slices are lent whole, with their lengths.
     unsafe {
         c::l1oc_list(
             bytes.as_ptr(),
             bytes.len(),
             count,
+            phase as u32,
             list.as_mut_ptr(),
             list.len(),
         )
@@ -156,9 +173,9 @@ pub fn list(bytes: &[u8], count: usize, list: &mut [u32]) -> Answer {
 }
 
 #[inline(always)]
-pub fn read(bytes: &[u8], count: usize, place: usize) -> Reading {
+pub fn read(bytes: &[u8], count: usize, phase: Phase, place: usize) -> Reading {
     // SAFETY: the slice is lent whole, with its length.
-    unsafe { c::l1oc_read(bytes.as_ptr(), bytes.len(), count, place) }
+    unsafe { c::l1oc_read(bytes.as_ptr(), bytes.len(), count, phase as u32, place) }
 }
 
 #[inline(always)]
@@ -168,9 +185,9 @@ pub fn write(bytes: &mut [u8], count: usize, place: usize, content: Record) -> A
 }
 
 #[inline(always)]
-pub fn read_set(bytes: &[u8], count: usize, place: usize) -> SetReading {
+pub fn read_set(bytes: &[u8], count: usize, phase: Phase, place: usize) -> SetReading {
     // SAFETY: the slice is lent whole, with its length.
-    unsafe { c::l1oc_read_set(bytes.as_ptr(), bytes.len(), count, place) }
+    unsafe { c::l1oc_read_set(bytes.as_ptr(), bytes.len(), count, phase as u32, place) }
 }
 
 #[inline(always)]

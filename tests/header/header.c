@@ -14,10 +14,10 @@
 #ifdef __cplusplus
 extern "C" {
 #endif
-struct l1oc_answer l1oc_list(const uint8_t *bytes, size_t length, size_t count, uint32_t *list, size_t room);
-struct l1oc_reading l1oc_read(const uint8_t *bytes, size_t length, size_t count, size_t place);
+struct l1oc_answer l1oc_list(const uint8_t *bytes, size_t length, size_t count, uint32_t phase, uint32_t *list, size_t room);
+struct l1oc_reading l1oc_read(const uint8_t *bytes, size_t length, size_t count, uint32_t phase, size_t place);
 struct l1oc_answer l1oc_write(uint8_t *bytes, size_t length, size_t count, size_t place, struct l1oc_record content);
-struct l1oc_set_reading l1oc_read_set(const uint8_t *bytes, size_t length, size_t count, size_t place);
+struct l1oc_set_reading l1oc_read_set(const uint8_t *bytes, size_t length, size_t count, uint32_t phase, size_t place);
 struct l1oc_answer l1oc_write_set(uint8_t *bytes, size_t length, size_t count, size_t place, struct l1oc_set content);
 struct l1oc_value l1oc_scaled(struct l1oc_record content, size_t field);
 struct l1oc_answer l1oc_accuracy(int64_t factor);
@@ -395,7 +395,7 @@ static struct l1oc_reading read_over_junk(const uint8_t *bytes, size_t length, s
 
     fill(&reading, JUNK, sizeof reading);
     junk_stack();
-    reading = l1oc_read(bytes, length, count, place);
+    reading = l1oc_read(bytes, length, count, L1OC_STRAIGHT, place);
     return reading;
 }
 
@@ -405,7 +405,7 @@ static struct l1oc_set_reading read_set_over_junk(const uint8_t *bytes, size_t l
 
     fill(&reading, JUNK, sizeof reading);
     junk_stack();
-    reading = l1oc_read_set(bytes, length, count, place);
+    reading = l1oc_read_set(bytes, length, count, L1OC_STRAIGHT, place);
     return reading;
 }
 
@@ -430,15 +430,15 @@ static void test_list(void)
     uint32_t list[6];
 
     memcpy(list, before, sizeof list);
-    CHECK(answers(l1oc_list(longest, 65537, 524289, list + 1, 4), 1, 0));
-    CHECK(answers(l1oc_list(lent, length, 633, list + 1, 4), 2, 0));
-    CHECK(answers(l1oc_list(lent, length, 632, list + 1, 2), 9, 3));
-    CHECK(answers(l1oc_list(lent, length, 624, list + 1, 1), 9, 2)); /* the last string lacks a bit */
+    CHECK(answers(l1oc_list(longest, 65537, 524289, L1OC_STRAIGHT, list + 1, 4), 1, 0));
+    CHECK(answers(l1oc_list(lent, length, 633, L1OC_STRAIGHT, list + 1, 4), 2, 0));
+    CHECK(answers(l1oc_list(lent, length, 632, L1OC_STRAIGHT, list + 1, 2), 9, 3));
+    CHECK(answers(l1oc_list(lent, length, 624, L1OC_STRAIGHT, list + 1, 1), 9, 2)); /* the last string lacks a bit */
     CHECK(memcmp(list, before, sizeof list) == 0);
-    CHECK(answers(l1oc_list(lent, length, 632, list + 1, 4), 0, 3));
+    CHECK(answers(l1oc_list(lent, length, 632, L1OC_STRAIGHT, list + 1, 4), 0, 3));
     CHECK(memcmp(list, after, sizeof list) == 0);
     CHECK(left(bytes, length));
-    CHECK(answers(l1oc_list(NULL, 0, 0, NULL, 0), 0, 0));
+    CHECK(answers(l1oc_list(NULL, 0, 0, L1OC_STRAIGHT, NULL, 0), 0, 0));
 }
 
 /* A refusal of reading: its number and value, and a record that is 0 in every byte. */
@@ -718,11 +718,11 @@ static void longest_recording(void)
     size_t i;
 
     memset(longest, 0, sizeof longest);
-    CHECK(answers(l1oc_list(longest, 65537, 524288, starts, L1OC_MAX_STARTS), 0, 0));
-    CHECK(answers(l1oc_list(longest, 65537, 524289, starts, L1OC_MAX_STARTS), 1, 0));
+    CHECK(answers(l1oc_list(longest, 65537, 524288, L1OC_STRAIGHT, starts, L1OC_MAX_STARTS), 0, 0));
+    CHECK(answers(l1oc_list(longest, 65537, 524289, L1OC_STRAIGHT, starts, L1OC_MAX_STARTS), 1, 0));
     CHECK(answers(l1oc_write(longest, 65537, 524288, 524163, record), 0, 524288));
     CHECK(answers(l1oc_write(longest, 65537, 524289, 524164, record), 1, 0));
-    CHECK(answers(l1oc_list(longest, 65537, 524288, starts, 1), 0, 1));
+    CHECK(answers(l1oc_list(longest, 65537, 524288, L1OC_STRAIGHT, starts, 1), 0, 1));
     CHECK(starts[0] == 524163);
     reading = read_over_junk(longest, 65537, 524288, 524163);
     CHECK(reading.number == 0 && memcmp(&reading.content, &record, sizeof record) == 0);
@@ -736,8 +736,8 @@ static void longest_recording(void)
     for (place = 0; place + 125 <= 524288; place += 125) {
         CHECK(answers(l1oc_write(longest, 65537, 524288, place, record), 0, place + 125));
     }
-    CHECK(answers(l1oc_list(longest, 65537, 524288, starts, 1000), 9, 4194));
-    answer = l1oc_list(longest, 65537, 524288, starts, L1OC_MAX_STARTS);
+    CHECK(answers(l1oc_list(longest, 65537, 524288, L1OC_STRAIGHT, starts, 1000), 9, 4194));
+    answer = l1oc_list(longest, 65537, 524288, L1OC_STRAIGHT, starts, L1OC_MAX_STARTS);
     CHECK(answers(answer, 0, 4194));
     for (i = 0; answer.number == 0 && i < answer.value; i++) {
         CHECK(starts[i] == 125 * i);

@@ -1,12 +1,12 @@
 //! Listing.
 
-use super::{answer, hex, Call, Outcome};
+use super::{answer, hex, Call, Outcome, STRAIGHT};
 use crate::lent::Lent;
 use crate::plain;
 use crate::run::Run;
 use crate::shrink::Shrink;
 use l1oc::refusal::*;
-use l1oc::{c, Answer};
+use l1oc::{c, Answer, Phase};
 
 #[derive(Clone)]
 pub struct List {
@@ -32,14 +32,14 @@ impl Call for List {
 
     fn declared(&self, (bytes, list): &mut Self::Lent) -> (Answer, ()) {
         let (lent, length) = (bytes.as_mut_ptr().cast_const(), bytes.len());
+        let (list, room) = (list.as_mut_ptr(), list.len());
         // SAFETY: both slices are lent whole, with their lengths.
-        let answer =
-            unsafe { c::l1oc_list(lent, length, self.count, list.as_mut_ptr(), list.len()) };
+        let answer = unsafe { c::l1oc_list(lent, length, self.count, STRAIGHT, list, room) };
         (answer, ())
     }
 
     fn safe(&self, (bytes, list): &mut Self::Lent) -> (Answer, ()) {
-        (l1oc::list(bytes, self.count, list), ())
+        (l1oc::list(bytes, self.count, Phase::Straight, list), ())
     }
 
     fn shrink(shrink: &mut Shrink<Self>) {

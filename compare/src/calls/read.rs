@@ -1,12 +1,12 @@
 //! Reading.
 
-use super::{answer, hex, Call, Outcome};
+use super::{answer, hex, Call, Outcome, STRAIGHT};
 use crate::lent::Lent;
 use crate::plain;
 use crate::run::Run;
 use crate::shrink::Shrink;
 use l1oc::refusal::*;
-use l1oc::{c, Answer, Reading, Record};
+use l1oc::{c, Answer, Phase, Reading, Record};
 
 #[derive(Clone)]
 pub struct Read {
@@ -43,11 +43,11 @@ impl Call for Read {
     fn declared(&self, bytes: &mut Lent<u8>) -> (Answer, Record) {
         let (lent, length) = (bytes.as_mut_ptr().cast_const(), bytes.len());
         // SAFETY: the slice is lent whole, with its length.
-        parts(unsafe { c::l1oc_read(lent, length, self.count, self.place) })
+        parts(unsafe { c::l1oc_read(lent, length, self.count, STRAIGHT, self.place) })
     }
 
     fn safe(&self, bytes: &mut Lent<u8>) -> (Answer, Record) {
-        parts(l1oc::read(bytes, self.count, self.place))
+        parts(l1oc::read(bytes, self.count, Phase::Straight, self.place))
     }
 
     fn shrink(shrink: &mut Shrink<Self>) {

@@ -1,12 +1,12 @@
 //! Reading a set.
 
-use super::{answer, hex, Call, Outcome};
+use super::{answer, hex, Call, Outcome, STRAIGHT};
 use crate::lent::Lent;
 use crate::plain;
 use crate::run::Run;
 use crate::shrink::Shrink;
 use l1oc::refusal::*;
-use l1oc::{c, Answer, Set, SetReading};
+use l1oc::{c, Answer, Phase, Set, SetReading};
 
 #[derive(Clone)]
 pub struct ReadSet {
@@ -46,11 +46,16 @@ impl Call for ReadSet {
     fn declared(&self, bytes: &mut Lent<u8>) -> (Answer, Set) {
         let (lent, length) = (bytes.as_mut_ptr().cast_const(), bytes.len());
         // SAFETY: the slice is lent whole, with its length.
-        parts(unsafe { c::l1oc_read_set(lent, length, self.count, self.place) })
+        parts(unsafe { c::l1oc_read_set(lent, length, self.count, STRAIGHT, self.place) })
     }
 
     fn safe(&self, bytes: &mut Lent<u8>) -> (Answer, Set) {
-        parts(l1oc::read_set(bytes, self.count, self.place))
+        parts(l1oc::read_set(
+            bytes,
+            self.count,
+            Phase::Straight,
+            self.place,
+        ))
     }
 
     fn shrink(shrink: &mut Shrink<Self>) {
