@@ -31,12 +31,8 @@ pub fn length(kind: u8) -> usize {
 
 /// The bits of a recording at the places from..to; the high bit of a byte comes first.
 pub fn bits(bytes: &[u8], from: usize, to: usize) -> String {
-    (from..to)
-        .map(|place| match bytes[place / 8] >> (7 - place % 8) & 1 {
-            0 => '0',
-            _ => '1',
-        })
-        .collect()
+    let digits = (from..to).map(|place| b'0' + (bytes[place / 8] >> (7 - place % 8) & 1));
+    String::from_utf8(digits.collect()).expect("digits")
 }
 
 /// A text of bits as a number, high bit first.
