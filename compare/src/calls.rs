@@ -11,12 +11,31 @@ pub mod write;
 pub mod write_set;
 
 use crate::lent::Memory;
+use crate::make::complement;
 use crate::shrink::Shrink;
 use l1oc::{Answer, Phase};
 use std::fmt::Debug;
 
-/// The number of the phase in C.
-const STRAIGHT: u32 = Phase::Straight as u32;
+/// The numbers of the phases in C.
+pub const STRAIGHT: u32 = Phase::Straight as u32;
+pub const INVERTED: u32 = Phase::Inverted as u32;
+
+/// The phase that a number in C means; one that is neither counts as inverted, as the header says.
+fn phase(number: u32) -> Phase {
+    match number {
+        STRAIGHT => Phase::Straight,
+        _ => Phase::Inverted,
+    }
+}
+
+/// The complement of a recording, and the other phase.
+fn opposite(bytes: &[u8], number: u32) -> (Vec<u8>, u32) {
+    let other = match phase(number) {
+        Phase::Straight => INVERTED,
+        Phase::Inverted => STRAIGHT,
+    };
+    (complement(bytes), other)
+}
 
 /// A call of a function: its input.
 pub trait Call: Clone {
@@ -42,6 +61,12 @@ pub trait Call: Clone {
 
     /// Runs the proved one by the safe function of `rust/`.
     fn safe(&self, lent: &mut Self::Lent) -> (Answer, Self::Given);
+
+    /// Where the function takes a phase, the call on the complement of the recording in the other
+    /// phase, which answers the same.
+    fn opposite(&self) -> Option<Self> {
+        None
+    }
 
     /// Names the parts of the input that are made smaller.
     fn shrink(_: &mut Shrink<Self>) {}

@@ -43,17 +43,48 @@ impl<T> DerefMut for Lent<T> {
     }
 }
 
+/// An entry of lent memory.
+pub trait Entry: Copy + PartialEq + Debug {
+    /// What stands for it where the recording is in opposite phase.
+    fn opposite(self) -> Self;
+}
+
+impl Entry for u8 {
+    /// A byte of a recording: its complement.
+    fn opposite(self) -> u8 {
+        255 - self
+    }
+}
+
+impl Entry for u32 {
+    /// A place of a list: itself.
+    fn opposite(self) -> u32 {
+        self
+    }
+}
+
 /// All that a call is lent: nothing, one piece of memory, or two.
 pub trait Memory: PartialEq {
+    /// Complements the recording in it.
+    fn complement(&mut self);
+
     /// Prints where another side's memory differs from this, the plain side's.
     fn print_difference(&self, side: Side, other: &Self);
 }
 
 impl Memory for () {
+    fn complement(&mut self) {}
+
     fn print_difference(&self, _: Side, _: &()) {}
 }
 
-impl<T: PartialEq + Debug> Memory for Lent<T> {
+impl<T: Entry> Memory for Lent<T> {
+    fn complement(&mut self) {
+        for entry in self.iter_mut() {
+            *entry = entry.opposite();
+        }
+    }
+
     /// The first entry that differs; places outside the lent ones belong to the guards.
     fn print_difference(&self, side: Side, other: &Self) {
         let (plain, other) = (&self.0, &other.0);
@@ -70,6 +101,11 @@ impl<T: PartialEq + Debug> Memory for Lent<T> {
 }
 
 impl<A: Memory, B: Memory> Memory for (A, B) {
+    fn complement(&mut self) {
+        self.0.complement();
+        self.1.complement();
+    }
+
     fn print_difference(&self, side: Side, other: &Self) {
         self.0.print_difference(side, &other.0);
         self.1.print_difference(side, &other.1);

@@ -145,6 +145,11 @@ pub fn pack(text: &str) -> Vec<u8> {
         .collect()
 }
 
+/// The bytes with every bit inverted.
+pub fn complement(bytes: &[u8]) -> Vec<u8> {
+    bytes.iter().map(|byte| 255 - byte).collect()
+}
+
 /// The text with the bits from a place on turned over where the pattern has a '1'.
 pub fn turn(text: &str, place: usize, pattern: &str) -> String {
     let mut digits: Vec<char> = text.chars().collect();

@@ -7,7 +7,7 @@ pub mod set;
 pub mod table;
 pub mod value;
 
-use l1oc::{Answer, Mark, Record};
+use l1oc::{Answer, Mark, Phase, Record};
 use table::Field;
 
 /// "Bit count above 524,288."
@@ -32,6 +32,24 @@ pub fn length(kind: u8) -> usize {
 /// The bits of a recording at the places from..to; the high bit of a byte comes first.
 pub fn bits(bytes: &[u8], from: usize, to: usize) -> String {
     let digits = (from..to).map(|place| b'0' + (bytes[place / 8] >> (7 - place % 8) & 1));
+    String::from_utf8(digits.collect()).expect("digits")
+}
+
+/// The true bits of a recording at the places from..to: where the radio loop has settled half a turn
+/// off, "every bit is inverted".
+fn true_bits(bytes: &[u8], phase: Phase, from: usize, to: usize) -> String {
+    let recorded = bits(bytes, from, to);
+    match phase {
+        Phase::Straight => recorded,
+        Phase::Inverted => turned(&recorded),
+    }
+}
+
+/// The text with every '0' a '1' and every '1' a '0'.
+pub fn turned(text: &str) -> String {
+    let digits = text
+        .bytes()
+        .map(|digit| if digit == b'0' { b'1' } else { b'0' });
     String::from_utf8(digits.collect()).expect("digits")
 }
 
@@ -63,9 +81,9 @@ fn stands(text: &str) -> Option<usize> {
 }
 
 /// Listing: the starts go to the list; the answer is their count.
-pub fn list(bytes: &[u8], count: usize, list: &mut [u32]) -> Result<usize, Answer> {
+pub fn list(bytes: &[u8], count: usize, phase: Phase, list: &mut [u32]) -> Result<usize, Answer> {
     count_passes(bytes, count)?;
-    let text = bits(bytes, 0, count);
+    let text = true_bits(bytes, phase, 0, count);
     let mut starts = Vec::new();
     let mut place = 0;
     while place < count {
@@ -85,7 +103,7 @@ pub fn list(bytes: &[u8], count: usize, list: &mut [u32]) -> Result<usize, Answe
 }
 
 /// Reading tests 1, 2, 3, 5 (18 bits), 4, 5, 6, 7, 8.
-pub fn read(bytes: &[u8], count: usize, place: usize) -> Result<Record, Answer> {
+pub fn read(bytes: &[u8], count: usize, phase: Phase, place: usize) -> Result<Record, Answer> {
     count_passes(bytes, count)?;
     let at = place as u64;
     if place > count {
@@ -96,7 +114,7 @@ pub fn read(bytes: &[u8], count: usize, place: usize) -> Result<Record, Answer> 
         return Err(refuse(5, at));
     }
     // No string is longer than 375 bits.
-    let text = bits(bytes, place, place + left.min(375));
+    let text = true_bits(bytes, phase, place, place + left.min(375));
     if !text.starts_with(MARK) {
         return Err(refuse(4, at));
     }
@@ -239,7 +257,8 @@ pub fn text_before_check(record: &Record) -> String {
     text + &bits(&record.raw, 0, raw_width(record.kind))
 }
 
-/// Writing tests 1, 2, 3, 7, 8, 11, 10, 5; the answer is the place after the string.
+/// Writing, always straight, tests 1, 2, 3, 7, 8, 11, 10, 5; the answer is the place after the
+/// string.
 pub fn write(
     bytes: &mut [u8],
     count: usize,

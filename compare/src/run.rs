@@ -5,6 +5,7 @@ use crate::lent::Memory;
 use crate::random::Random;
 use crate::shrink::shrink;
 use std::collections::{BTreeMap, BTreeSet};
+use std::iter;
 use std::process::exit;
 
 pub struct Run {
@@ -20,11 +21,26 @@ pub struct Run {
 pub type Seen = BTreeMap<&'static str, (&'static [u64], BTreeSet<u64>)>;
 
 impl Run {
-    /// Compares one case; the outcome is the same on all sides.
+    /// Compares one case; the outcome is the same on all sides. Where it takes a phase, the
+    /// complement of its recording is compared in the other phase too, with the same outcome.
     pub fn compare<C: Call>(&mut self, call: C) -> Outcome<C> {
+        let outcome = self.compare_one(&call);
+        if let Some(opposite) = call.opposite() {
+            let mut other = self.compare_one(&opposite);
+            other.lent.complement();
+            self.require(other == outcome, || {
+                println!("the complement answers otherwise in the other phase");
+                report(&call);
+                report(&opposite);
+            });
+        }
+        outcome
+    }
+
+    fn compare_one<C: Call>(&mut self, call: &C) -> Outcome<C> {
         self.cases += 1;
         let Some(outcome) = call.agreed() else {
-            report(&shrink(call));
+            report(&shrink(call.clone()));
             exit(1);
         };
         let seen = self.seen.entry(C::NAME);
@@ -33,13 +49,16 @@ impl Run {
         outcome
     }
 
-    /// Runs one case on all sides and holds each outcome against what document 01 says.
+    /// Runs one case on all sides, and in both phases where it takes one, and holds each outcome
+    /// against what document 01 says.
     pub fn expect<C: Call>(&mut self, name: &str, call: C, holds: impl Fn(&Outcome<C>) -> bool) {
-        for side in SIDES {
-            self.require(holds(&call.run(side)), || {
-                println!("{name} of document 01 fails: {side:?}");
-                report(&call);
-            });
+        for call in iter::once(&call).chain(&call.opposite()) {
+            for side in SIDES {
+                self.require(holds(&call.run(side)), || {
+                    println!("{name} of document 01 fails: {side:?}");
+                    report(call);
+                });
+            }
         }
         self.compare(call);
     }

@@ -1,6 +1,6 @@
 //! Makes a case on which the implementations differ smaller, as long as they still differ.
 
-use crate::calls::Call;
+use crate::calls::{Call, INVERTED};
 use crate::make::set;
 use l1oc::{Mark, Record, NUMBERS, RAW_BYTES};
 
@@ -37,6 +37,13 @@ impl<C: Call> Shrink<C> {
             self.call = call;
         }
         differs
+    }
+
+    /// Takes 1 for a number that is neither phase.
+    pub fn phase(&mut self, part: fn(&mut C) -> &mut u32) {
+        if *part(&mut self.call) > INVERTED {
+            self.keep(|call| *part(call) = INVERTED);
+        }
     }
 
     /// Lowers a number, by much at first, then by less.

@@ -1,17 +1,18 @@
 //! Reading a set.
 
-use super::{answer, hex, Call, Outcome, STRAIGHT};
+use super::{answer, hex, opposite, phase, Call, Outcome, STRAIGHT};
 use crate::lent::Lent;
 use crate::plain;
 use crate::run::Run;
 use crate::shrink::Shrink;
 use l1oc::refusal::*;
-use l1oc::{c, Answer, Phase, Set, SetReading};
+use l1oc::{c, Answer, Set, SetReading};
 
 #[derive(Clone)]
 pub struct ReadSet {
     pub bytes: Vec<u8>,
     pub count: usize,
+    pub phase: u32,
     pub place: usize,
 }
 
@@ -39,32 +40,45 @@ impl Call for ReadSet {
     }
 
     fn plain(&self, bytes: &mut Lent<u8>) -> (Answer, Set) {
-        let set = plain::set::read(bytes, self.count, self.place);
+        let set = plain::set::read(bytes, self.count, phase(self.phase), self.place);
         (answer(set.map(|_| 0)), set.unwrap_or(Set::BLANK))
     }
 
     fn declared(&self, bytes: &mut Lent<u8>) -> (Answer, Set) {
         let (lent, length) = (bytes.as_mut_ptr().cast_const(), bytes.len());
         // SAFETY: the slice is lent whole, with its length.
-        parts(unsafe { c::l1oc_read_set(lent, length, self.count, STRAIGHT, self.place) })
+        parts(unsafe { c::l1oc_read_set(lent, length, self.count, self.phase, self.place) })
     }
 
     fn safe(&self, bytes: &mut Lent<u8>) -> (Answer, Set) {
         parts(l1oc::read_set(
             bytes,
             self.count,
-            Phase::Straight,
+            phase(self.phase),
             self.place,
         ))
     }
 
+    fn opposite(&self) -> Option<Self> {
+        let (bytes, phase) = opposite(&self.bytes, self.phase);
+        Some(ReadSet {
+            bytes,
+            phase,
+            ..*self
+        })
+    }
+
     fn shrink(shrink: &mut Shrink<Self>) {
+        shrink.phase(|call| &mut call.phase);
         shrink.recording(|call| (&mut call.bytes, &mut call.count, Some(&mut call.place)));
     }
 
     fn input(&self) -> String {
         let bytes = hex(&self.bytes);
-        format!("count {}, place {}, bytes {bytes}", self.count, self.place)
+        format!(
+            "count {}, phase {}, place {}, bytes {bytes}",
+            self.count, self.phase, self.place
+        )
     }
 }
 
@@ -79,10 +93,20 @@ fn parts(reading: SetReading) -> (Answer, Set) {
 
 impl Run {
     pub fn read_set(&mut self, bytes: &[u8], count: usize, place: usize) -> Outcome<ReadSet> {
-        let bytes = bytes.to_vec();
+        self.read_set_in(STRAIGHT, bytes, count, place)
+    }
+
+    pub fn read_set_in(
+        &mut self,
+        phase: u32,
+        bytes: &[u8],
+        count: usize,
+        place: usize,
+    ) -> Outcome<ReadSet> {
         self.compare(ReadSet {
-            bytes,
+            bytes: bytes.to_vec(),
             count,
+            phase,
             place,
         })
     }

@@ -4,7 +4,7 @@ use crate::calls::day_count::DayCount;
 use crate::calls::list::List;
 use crate::calls::read::Read;
 use crate::calls::write::Write;
-use crate::calls::{Call, Outcome, SIDES};
+use crate::calls::{Call, Outcome, SIDES, STRAIGHT};
 use crate::make;
 use crate::plain::{self, check, LIMIT};
 use crate::run::Run;
@@ -61,6 +61,7 @@ fn read(text: &str) -> Read {
     Read {
         bytes: make::pack(text),
         count: text.len(),
+        phase: STRAIGHT,
         place: 0,
     }
 }
@@ -150,7 +151,12 @@ fn ranges(run: &mut Run) {
 
 /// Examples 10 to 13.
 fn counts(run: &mut Run) {
-    let list = |bytes: Vec<u8>, count, room| List { bytes, count, room };
+    let list = |bytes: Vec<u8>, count, room| List {
+        bytes,
+        count,
+        phase: STRAIGHT,
+        room,
+    };
     run.expect("example 10", list(vec![], 0, 0), is(0, 0));
     run.expect("example 10", read(""), is(5, 0));
     run.expect("example 11", DayCount { n4: 1, nt: 1 }, is(0, 0));
@@ -193,6 +199,7 @@ fn listing(run: &mut Run) {
         let list = List {
             bytes: bytes.clone(),
             count: 632,
+            phase: STRAIGHT,
             room: 3,
         };
         run.expect("list", list, |outcome| outcome.starts() == [0, 250, 375]);
@@ -200,6 +207,7 @@ fn listing(run: &mut Run) {
             let case = Read {
                 bytes: bytes.clone(),
                 count: 632,
+                phase: STRAIGHT,
                 place,
             };
             run.expect("list", case, |outcome| {

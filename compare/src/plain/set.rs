@@ -1,7 +1,7 @@
 //! Ephemeris sets: "one ephemeris set from strings 10, 11 and 12" (request U1).
 
 use super::{count_passes, length, record_passes, refuse};
-use l1oc::{Answer, Record, Set};
+use l1oc::{Answer, Phase, Record, Set};
 
 /// "The set can be written back as 750 bits."
 pub const BITS: usize = 750;
@@ -12,12 +12,12 @@ pub fn records(set: &Set) -> [Record; 3] {
 
 /// "Each string starts where the one before it ends. Each is read by itself first, and its own
 /// refusal comes first."
-pub fn read(bytes: &[u8], count: usize, place: usize) -> Result<Set, Answer> {
-    let first = super::read(bytes, count, place)?;
+pub fn read(bytes: &[u8], count: usize, phase: Phase, place: usize) -> Result<Set, Answer> {
+    let first = super::read(bytes, count, phase, place)?;
     let place = place + length(first.kind);
-    let second = super::read(bytes, count, place)?;
+    let second = super::read(bytes, count, phase, place)?;
     let place = place + length(second.kind);
-    let third = super::read(bytes, count, place)?;
+    let third = super::read(bytes, count, phase, place)?;
     let set = Set {
         first,
         second,
