@@ -5,6 +5,7 @@ mod counts;
 mod examples;
 mod marks;
 mod mixed;
+mod phases;
 mod recordings;
 mod records;
 mod refusals;
@@ -57,4 +58,12 @@ pub const ALL: &[Group] = &[
     ("refusals of writing a set together", sets::writing),
     ("random sets and places", mixed::sets),
     ("recordings of sets", recordings::sets),
+    ("inverted strings cut at every bit", phases::cut),
+    ("recordings read in both phases", phases::both),
+    ("strings inside strings of the other phase", phases::nested),
+    ("sets with strings of both phases", phases::sets),
+    ("bits past the bit count", phases::past),
+    ("raw bits of inverted strings", phases::raw),
+    ("numbers that are neither phase", phases::numbers),
+    ("inverted strings written back", phases::written_back),
 ];

@@ -47,7 +47,7 @@ pub fn random_bytes(run: &mut Run) {
 }
 
 /// Strings end to end, valid ones and ones whose fields hold anything.
-fn strings(random: &mut Random, many: usize) -> Vec<String> {
+pub fn strings(random: &mut Random, many: usize) -> Vec<String> {
     (0..many)
         .map(|_| {
             let kind = make::kind(random);
@@ -60,7 +60,7 @@ fn strings(random: &mut Random, many: usize) -> Vec<String> {
 }
 
 /// Damages the text in one place: bits turned over, dropped, inserted or made noise.
-fn damage(random: &mut Random, text: &mut String) {
+pub fn damage(random: &mut Random, text: &mut String) {
     let place = random.below(text.len());
     let width = match random.below(3) {
         0 => 1 + random.below(3),
