@@ -95,7 +95,7 @@ static void layout(void)
     MEMBER(l1oc_value, double, scaled, 16, 8);
 }
 
-static void limits_and_refusals(void)
+static void constants(void)
 {
     CHECK(L1OC_MAX_BITS == 524288);
     CHECK(L1OC_MAX_BYTES == 65536);
@@ -104,6 +104,8 @@ static void limits_and_refusals(void)
     CHECK(L1OC_RAW_BYTES == 38);
     CHECK(L1OC_RECORD_BYTES == 184);
     CHECK(L1OC_SET_BITS == 750);
+    CHECK(L1OC_STRAIGHT == 0);
+    CHECK(L1OC_INVERTED == 1);
     CHECK(L1OC_TOO_LONG == 1);
     CHECK(L1OC_BEYOND_BYTES == 2);
     CHECK(L1OC_BEYOND_COUNT == 3);
@@ -346,6 +348,30 @@ static void make_refused_sets(void)
     both->second.time = 1;
 }
 
+/* ---- phases ---- */
+
+/* The phases, and numbers that are neither, which count as inverted; some are 0 in their lowest bit, byte or half. */
+static const uint32_t phases[] = {0, 1, 2, 3, 0x100, 0x10000, 0x80000000, 0xfffffffe, 0xffffffff};
+
+enum {
+    PHASES = sizeof phases / sizeof phases[0]
+};
+
+static uint32_t other_phase(uint32_t phase)
+{
+    return phase == 0 ? 1 : 0;
+}
+
+/* Turns bytes as they are sent into bytes as they are recorded in the phase, and back. */
+static void turn(uint32_t phase, uint8_t *bytes, size_t length)
+{
+    size_t i;
+
+    for (i = 0; phase != 0 && i < length; i++) {
+        bytes[i] = (uint8_t)(255 - bytes[i]);
+    }
+}
+
 /* ---- memory ---- */
 
 enum {
@@ -389,23 +415,23 @@ static void junk_frame(void)
 static void (*volatile junk_stack)(void) = junk_frame;
 
 /* Reads with junk where the call has its frame and where the result goes. */
-static struct l1oc_reading read_over_junk(const uint8_t *bytes, size_t length, size_t count, size_t place)
+static struct l1oc_reading read_over_junk(const uint8_t *bytes, size_t length, size_t count, uint32_t phase, size_t place)
 {
     struct l1oc_reading reading;
 
     fill(&reading, JUNK, sizeof reading);
     junk_stack();
-    reading = l1oc_read(bytes, length, count, L1OC_STRAIGHT, place);
+    reading = l1oc_read(bytes, length, count, phase, place);
     return reading;
 }
 
-static struct l1oc_set_reading read_set_over_junk(const uint8_t *bytes, size_t length, size_t count, size_t place)
+static struct l1oc_set_reading read_set_over_junk(const uint8_t *bytes, size_t length, size_t count, uint32_t phase, size_t place)
 {
     struct l1oc_set_reading reading;
 
     fill(&reading, JUNK, sizeof reading);
     junk_stack();
-    reading = l1oc_read_set(bytes, length, count, L1OC_STRAIGHT, place);
+    reading = l1oc_read_set(bytes, length, count, phase, place);
     return reading;
 }
 
@@ -416,7 +442,7 @@ static int answers(struct l1oc_answer answer, uint64_t number, uint64_t value)
     return answer.number == number && answer.value == value;
 }
 
-static void test_list(void)
+static void list_in(uint32_t phase)
 {
     /* document 01's recording of the program `list` */
     static const char digits[] =
@@ -424,35 +450,49 @@ static void test_list(void)
         "200a000032800000000000000000000000000000000000000000000011a600";
     uint8_t bytes[79];
     size_t length = from_hex(digits, bytes);
-    uint8_t *lent = lend(bytes, length);
+    uint8_t *lent;
     static const uint32_t before[6] = {90, 91, 92, 93, 94, 95};
     static const uint32_t after[6] = {90, 0, 250, 375, 94, 95};
     uint32_t list[6];
 
+    turn(phase, bytes, length);
+    lent = lend(bytes, length);
     memcpy(list, before, sizeof list);
-    CHECK(answers(l1oc_list(longest, 65537, 524289, L1OC_STRAIGHT, list + 1, 4), 1, 0));
-    CHECK(answers(l1oc_list(lent, length, 633, L1OC_STRAIGHT, list + 1, 4), 2, 0));
-    CHECK(answers(l1oc_list(lent, length, 632, L1OC_STRAIGHT, list + 1, 2), 9, 3));
-    CHECK(answers(l1oc_list(lent, length, 624, L1OC_STRAIGHT, list + 1, 1), 9, 2)); /* the last string lacks a bit */
+    CHECK(answers(l1oc_list(longest, 65537, 524289, phase, list + 1, 4), 1, 0));
+    CHECK(answers(l1oc_list(lent, length, 633, phase, list + 1, 4), 2, 0));
+    CHECK(answers(l1oc_list(lent, length, 632, phase, list + 1, 2), 9, 3));
+    CHECK(answers(l1oc_list(lent, length, 624, phase, list + 1, 1), 9, 2)); /* the last string lacks a bit */
+    CHECK(answers(l1oc_list(lent, length, 249, phase, list + 1, 4), 0, 0)); /* the first lacks its last bit, which is in the same byte */
+    CHECK(answers(l1oc_list(lent, length, 632, other_phase(phase), list + 1, 4), 0, 0));
     CHECK(memcmp(list, before, sizeof list) == 0);
-    CHECK(answers(l1oc_list(lent, length, 632, L1OC_STRAIGHT, list + 1, 4), 0, 3));
+    CHECK(answers(l1oc_list(lent, length, 632, phase, list + 1, 4), 0, 3));
     CHECK(memcmp(list, after, sizeof list) == 0);
     CHECK(left(bytes, length));
-    CHECK(answers(l1oc_list(NULL, 0, 0, L1OC_STRAIGHT, NULL, 0), 0, 0));
+    CHECK(answers(l1oc_list(NULL, 0, 0, phase, NULL, 0), 0, 0));
+}
+
+static void test_list(void)
+{
+    size_t i;
+
+    for (i = 0; i < PHASES; i++) {
+        list_in(phases[i]);
+    }
 }
 
 /* A refusal of reading: its number and value, and a record that is 0 in every byte. */
-static void refuses_to_read(const uint8_t *bytes, size_t length, size_t count, size_t place, uint64_t number, uint64_t value)
+static void refuses_to_read(const uint8_t *bytes, size_t length, size_t count, uint32_t phase, size_t place, uint64_t number,
+                            uint64_t value)
 {
     static struct l1oc_record blank; /* all 0 */
-    struct l1oc_reading reading = read_over_junk(bytes, length, count, place);
+    struct l1oc_reading reading = read_over_junk(bytes, length, count, phase, place);
 
     CHECK(reading.number == number);
     CHECK(reading.value == value);
     CHECK(memcmp(&reading.content, &blank, sizeof blank) == 0);
 }
 
-static void test_read(void)
+static void read_in(uint32_t phase)
 {
     uint8_t bytes[60];
     uint8_t *lent;
@@ -464,30 +504,50 @@ static void test_read(void)
         struct l1oc_reading reading;
 
         length = from_hex(strings[i].bytes, bytes);
-        reading = read_over_junk(lend(bytes, length), length, strings[i].bits, 0);
+        turn(phase, bytes, length);
+        lent = lend(bytes, length);
+        reading = read_over_junk(lent, length, strings[i].bits, phase, 0);
         CHECK(reading.number == 0);
         CHECK(reading.value == 0);
         CHECK(memcmp(&reading.content, &record, sizeof record) == 0);
+        refuses_to_read(lent, length, strings[i].bits, other_phase(phase), 0, 4, 0);
+        CHECK(left(bytes, length));
+
+        /* written into the true bytes, it changes none */
+        turn(phase, bytes, length);
+        lent = lend(bytes, length);
+        CHECK(answers(l1oc_write(lent, length, strings[i].bits, 0, reading.content), 0, strings[i].bits));
         CHECK(left(bytes, length));
     }
     for (i = 0; i < sizeof wrong / sizeof wrong[0]; i++) {
         length = from_hex(wrong[i].bytes, bytes);
-        refuses_to_read(bytes, length, 250, 0, wrong[i].number, wrong[i].value);
+        turn(phase, bytes, length);
+        refuses_to_read(bytes, length, 250, phase, 0, wrong[i].number, wrong[i].value);
     }
 
     length = from_hex(placed, bytes);
+    turn(phase, bytes, length);
     lent = lend(bytes, length);
-    CHECK(read_over_junk(lent, length, 471, 13).content.satellite == 33);
-    refuses_to_read(longest, 65537, 524289, 13, 1, 0);
-    refuses_to_read(lent, length, 481, 13, 2, 0);
-    refuses_to_read(lent, length, 471, 472, 3, 472);
-    refuses_to_read(lent, length, 471, 454, 5, 454); /* 17 bits are left */
-    refuses_to_read(lent, length, 471, 14, 4, 14);
-    refuses_to_read(lent, length, 387, 13, 5, 13); /* the string lacks a bit */
+    CHECK(read_over_junk(lent, length, 471, phase, 13).content.satellite == 33);
+    refuses_to_read(longest, 65537, 524289, phase, 13, 1, 0);
+    refuses_to_read(lent, length, 481, phase, 13, 2, 0);
+    refuses_to_read(lent, length, 471, phase, 472, 3, 472);
+    refuses_to_read(lent, length, 471, phase, 454, 5, 454); /* 17 bits are left */
+    refuses_to_read(lent, length, 471, phase, 14, 4, 14);
+    refuses_to_read(lent, length, 387, phase, 13, 5, 13); /* the string lacks a bit */
     CHECK(left(bytes, length));
     lent[48] ^= 0x10; /* its last bit */
-    refuses_to_read(lent, length, 471, 13, 6, 13);
-    refuses_to_read(NULL, 0, 0, 0, 5, 0);
+    refuses_to_read(lent, length, 471, phase, 13, 6, 13);
+    refuses_to_read(NULL, 0, 0, phase, 0, 5, 0);
+}
+
+static void test_read(void)
+{
+    size_t i;
+
+    for (i = 0; i < PHASES; i++) {
+        read_in(phases[i]);
+    }
 }
 
 static void test_write(void)
@@ -508,7 +568,7 @@ static void test_write(void)
         lent = lend(zeros, length);
         CHECK(answers(l1oc_write(lent, length, strings[i].bits, 0, record), 0, strings[i].bits));
         CHECK(left(bytes, length));
-        read = read_over_junk(lent, length, strings[i].bits, 0).content;
+        read = read_over_junk(lent, length, strings[i].bits, L1OC_STRAIGHT, 0).content;
         CHECK(memcmp(&read, &record, sizeof record) == 0);
     }
 
@@ -530,10 +590,11 @@ static void test_write(void)
 }
 
 /* A refusal of reading a set: its number and value, and a set that is 0 in every byte. */
-static void refuses_to_read_set(const uint8_t *bytes, size_t length, size_t count, size_t place, uint64_t number, uint64_t value)
+static void refuses_to_read_set(const uint8_t *bytes, size_t length, size_t count, uint32_t phase, size_t place, uint64_t number,
+                                uint64_t value)
 {
     static struct l1oc_set blank; /* all 0 */
-    struct l1oc_set_reading reading = read_set_over_junk(bytes, length, count, place);
+    struct l1oc_set_reading reading = read_set_over_junk(bytes, length, count, phase, place);
 
     CHECK(reading.number == number);
     CHECK(reading.value == value);
@@ -541,53 +602,64 @@ static void refuses_to_read_set(const uint8_t *bytes, size_t length, size_t coun
 }
 
 /* Reads the set of the first three strings. */
-static void reads_set(const uint8_t *bytes, size_t length, size_t count, size_t place)
+static void reads_set(const uint8_t *bytes, size_t length, size_t count, uint32_t phase, size_t place)
 {
     struct l1oc_set set = set_of(0, 1, 2);
-    struct l1oc_set_reading reading = read_set_over_junk(bytes, length, count, place);
+    struct l1oc_set_reading reading = read_set_over_junk(bytes, length, count, phase, place);
 
     CHECK(reading.number == 0);
     CHECK(reading.value == 0);
     CHECK(memcmp(&reading.content, &set, sizeof set) == 0);
 }
 
-static void test_read_set(void)
+static void read_set_in(uint32_t phase)
 {
-    uint8_t bytes[120];
+    uint8_t bytes[120] = {0};
     uint8_t *lent;
     size_t length;
     size_t i;
 
     length = from_hex(set_bytes, bytes);
-    reads_set(lend(bytes, length), length, 750, 0);
+    turn(phase, bytes, length);
+    lent = lend(bytes, length);
+    reads_set(lent, length, 750, phase, 0);
+    refuses_to_read_set(lent, length, 750, other_phase(phase), 0, 4, 0);
+    CHECK(left(bytes, length));
+
+    /* written into the true bytes, it changes none */
+    turn(phase, bytes, length);
+    lent = lend(bytes, length);
+    CHECK(answers(l1oc_write_set(lent, length, 750, 0, set_of(0, 1, 2)), 0, 750));
     CHECK(left(bytes, length));
 
     length = from_hex(placed_set, bytes);
+    turn(phase, bytes, length);
     lent = lend(bytes, length);
-    reads_set(lent, length, 763, 13);
-    refuses_to_read_set(longest, 65537, 524289, 13, 1, 0);
-    refuses_to_read_set(lent, length, 801, 13, 2, 0);
-    refuses_to_read_set(lent, length, 800, 801, 3, 801);
-    refuses_to_read_set(lent, length, 800, 783, 5, 783); /* 17 bits are left */
-    refuses_to_read_set(lent, length, 800, 12, 4, 12);
-    refuses_to_read_set(lent, length, 800, 263, 4, 763); /* the second string is the first, and no third follows */
-    refuses_to_read_set(lent, length, 262, 13, 5, 13);   /* the first string lacks a bit */
-    refuses_to_read_set(lent, length, 280, 13, 5, 263);  /* 17 bits are left for the second */
-    refuses_to_read_set(lent, length, 762, 13, 5, 513);  /* the third lacks a bit */
+    reads_set(lent, length, 763, phase, 13);
+    refuses_to_read_set(longest, 65537, 524289, phase, 13, 1, 0);
+    refuses_to_read_set(lent, length, 801, phase, 13, 2, 0);
+    refuses_to_read_set(lent, length, 800, phase, 801, 3, 801);
+    refuses_to_read_set(lent, length, 800, phase, 783, 5, 783); /* 17 bits are left */
+    refuses_to_read_set(lent, length, 800, phase, 12, 4, 12);
+    refuses_to_read_set(lent, length, 800, phase, 263, 4, 763); /* the second string is the first, and no third follows */
+    refuses_to_read_set(lent, length, 262, phase, 13, 5, 13);   /* the first string lacks a bit */
+    refuses_to_read_set(lent, length, 280, phase, 13, 5, 263);  /* 17 bits are left for the second */
+    refuses_to_read_set(lent, length, 762, phase, 13, 5, 513);  /* the third lacks a bit */
     CHECK(left(bytes, length));
     lent[95] ^= 0x20; /* the last bit of the third */
-    refuses_to_read_set(lent, length, 800, 13, 6, 513);
+    refuses_to_read_set(lent, length, 800, phase, 13, 6, 513);
     lent[64] ^= 0x80; /* of the second */
-    refuses_to_read_set(lent, length, 800, 13, 6, 263);
+    refuses_to_read_set(lent, length, 800, phase, 13, 6, 263);
     lent[32] ^= 0x02; /* of the first */
-    refuses_to_read_set(lent, length, 800, 13, 6, 13);
-    refuses_to_read_set(NULL, 0, 0, 0, 5, 0);
+    refuses_to_read_set(lent, length, 800, phase, 13, 6, 13);
+    refuses_to_read_set(NULL, 0, 0, phase, 0, 5, 0);
 
     for (i = 0; i < sizeof wrong / sizeof wrong[0]; i++) {
         from_hex(wrong[i].bytes, bytes + 32);
-        refuses_to_read_set(bytes, 64, 512, 256, wrong[i].number, wrong[i].value);
         CHECK(answers(l1oc_write(bytes, 64, 512, 6, record_of(&strings[0])), 0, 256)); /* before it */
-        refuses_to_read_set(bytes, 64, 512, 6, wrong[i].number, wrong[i].value);
+        turn(phase, bytes, 64);
+        refuses_to_read_set(bytes, 64, 512, phase, 256, wrong[i].number, wrong[i].value);
+        refuses_to_read_set(bytes, 64, 512, phase, 6, wrong[i].number, wrong[i].value);
     }
     for (i = 0; i < set_refusals; i++) {
         struct l1oc_answer end = l1oc_write(bytes, 120, 960, 5, refused_sets[i].set.first);
@@ -595,7 +667,17 @@ static void test_read_set(void)
         end = l1oc_write(bytes, 120, 960, end.value, refused_sets[i].set.second);
         end = l1oc_write(bytes, 120, 960, end.value, refused_sets[i].set.third);
         CHECK(end.number == 0);
-        refuses_to_read_set(bytes, 120, 960, 5, refused_sets[i].number, 0);
+        turn(phase, bytes, 120);
+        refuses_to_read_set(bytes, 120, 960, phase, 5, refused_sets[i].number, 0);
+    }
+}
+
+static void test_read_set(void)
+{
+    size_t i;
+
+    for (i = 0; i < PHASES; i++) {
+        read_set_in(phases[i]);
     }
 }
 
@@ -614,7 +696,7 @@ static void test_write_set(void)
     lent = lend(zeros, length);
     CHECK(answers(l1oc_write_set(lent, length, 750, 0, set), 0, 750));
     CHECK(left(bytes, length));
-    reads_set(lent, length, 750, 0);
+    reads_set(lent, length, 750, L1OC_STRAIGHT, 0);
 
     memset(before, 0xa5, sizeof before);
     lent = lend(before, 100);
@@ -708,7 +790,7 @@ static void test_day_count(void)
 /* ---- the longest recording ---- */
 
 /* Document 01's example 13 by each function that takes a bit count, and strings of 125 bits in the whole of the longest recording. */
-static void longest_recording(void)
+static void longest_recording(uint32_t phase)
 {
     struct l1oc_record record = record_of(&strings[6]);
     static uint32_t starts[L1OC_MAX_STARTS];
@@ -718,26 +800,35 @@ static void longest_recording(void)
     size_t i;
 
     memset(longest, 0, sizeof longest);
-    CHECK(answers(l1oc_list(longest, 65537, 524288, L1OC_STRAIGHT, starts, L1OC_MAX_STARTS), 0, 0));
-    CHECK(answers(l1oc_list(longest, 65537, 524289, L1OC_STRAIGHT, starts, L1OC_MAX_STARTS), 1, 0));
+    turn(phase, longest, sizeof longest);
+    CHECK(answers(l1oc_list(longest, 65537, 524288, phase, starts, L1OC_MAX_STARTS), 0, 0));
+    CHECK(answers(l1oc_list(longest, 65537, 524289, phase, starts, L1OC_MAX_STARTS), 1, 0));
+
+    turn(phase, longest, sizeof longest);
     CHECK(answers(l1oc_write(longest, 65537, 524288, 524163, record), 0, 524288));
     CHECK(answers(l1oc_write(longest, 65537, 524289, 524164, record), 1, 0));
-    CHECK(answers(l1oc_list(longest, 65537, 524288, L1OC_STRAIGHT, starts, 1), 0, 1));
+    turn(phase, longest, sizeof longest);
+    CHECK(answers(l1oc_list(longest, 65537, 524288, phase, starts, 1), 0, 1));
     CHECK(starts[0] == 524163);
-    reading = read_over_junk(longest, 65537, 524288, 524163);
+    reading = read_over_junk(longest, 65537, 524288, phase, 524163);
     CHECK(reading.number == 0 && memcmp(&reading.content, &record, sizeof record) == 0);
-    refuses_to_read(longest, 65537, 524288, 524288, 5, 524288);
-    refuses_to_read(longest, 65537, 524289, 524163, 1, 0);
+    refuses_to_read(longest, 65537, 524288, phase, 524288, 5, 524288);
+    refuses_to_read(longest, 65537, 524289, phase, 524163, 1, 0);
+
+    turn(phase, longest, sizeof longest);
     CHECK(answers(l1oc_write_set(longest, 65537, 524288, 523538, set_of(0, 1, 2)), 0, 524288));
     CHECK(answers(l1oc_write_set(longest, 65537, 524289, 523538, set_of(0, 1, 2)), 1, 0));
-    reads_set(longest, 65537, 524288, 523538);
-    refuses_to_read_set(longest, 65537, 524289, 523538, 1, 0);
+    turn(phase, longest, sizeof longest);
+    reads_set(longest, 65537, 524288, phase, 523538);
+    refuses_to_read_set(longest, 65537, 524289, phase, 523538, 1, 0);
 
+    turn(phase, longest, sizeof longest);
     for (place = 0; place + 125 <= 524288; place += 125) {
         CHECK(answers(l1oc_write(longest, 65537, 524288, place, record), 0, place + 125));
     }
-    CHECK(answers(l1oc_list(longest, 65537, 524288, L1OC_STRAIGHT, starts, 1000), 9, 4194));
-    answer = l1oc_list(longest, 65537, 524288, L1OC_STRAIGHT, starts, L1OC_MAX_STARTS);
+    turn(phase, longest, sizeof longest);
+    CHECK(answers(l1oc_list(longest, 65537, 524288, phase, starts, 1000), 9, 4194));
+    answer = l1oc_list(longest, 65537, 524288, phase, starts, L1OC_MAX_STARTS);
     CHECK(answers(answer, 0, 4194));
     for (i = 0; answer.number == 0 && i < answer.value; i++) {
         CHECK(starts[i] == 125 * i);
@@ -747,7 +838,7 @@ static void longest_recording(void)
 int main(void)
 {
     layout();
-    limits_and_refusals();
+    constants();
     make_refused();
     make_refused_sets();
     test_list();
@@ -758,7 +849,8 @@ int main(void)
     test_scaled();
     test_accuracy();
     test_day_count();
-    longest_recording();
+    longest_recording(L1OC_STRAIGHT);
+    longest_recording(L1OC_INVERTED);
     printf("header: %d checks, %d failed\n", checks, failures);
     return failures != 0;
 }
