@@ -14,16 +14,19 @@ use twister::Twister;
 /// Makes the recordings that are stored in `tests/list`.
 pub fn make(folder: &Path) -> io::Result<()> {
     let random = &mut Twister::new(20_261_115);
-    for (name, text) in [
+    let recordings = [
         ("empty", String::new()),
         ("out_of_range", out_of_range(random)),
         ("other_orbit", other_orbit(random)),
         ("damaged", damaged(random)),
         ("all_types", all_types(random)),
         ("sets", sets(random)),
-    ] {
-        save(folder, name, &text)?;
+    ];
+    for (name, text) in &recordings {
+        save(folder, name, text)?;
     }
+    let [.., (_, sets)] = &recordings;
+    save(folder, "inverted", &inverted(sets))?;
     // Of this one only the text is kept.
     let longer = vec![0; LIMIT / 8 + 1];
     fs::write(folder.join("refused.csv"), report(&longer))
@@ -224,6 +227,12 @@ fn sets(random: &mut Twister) -> String {
     text = make::turn(&text, 45 + 5 * 250 + 90, "1011");
     text.truncate(text.len() - 100);
     text
+}
+
+/// The recording in opposite phase, with what fills its last byte.
+fn inverted(text: &str) -> String {
+    let bytes = make::pack(text);
+    plain::turned(&plain::bits(&bytes, 0, 8 * bytes.len()))
 }
 
 /// Strings of the types that come, and the shortest where no other fits, end to end to within 125 bits of the limit.
