@@ -59,6 +59,7 @@ int main(int argc, char **argv)
         return 2;
     }
     take_recording(&recording, "ephemeris", argv[1]);
+    list_recording(&recording, "ephemeris", L1OC_STRAIGHT);
     fprintf(stderr, "ephemeris: %zu strings\n", recording.strings);
     for (i = 0; i < recording.strings; i++) {
         failed |= print_string(recording.bytes, recording.length, recording.starts[i]);

@@ -1,4 +1,4 @@
-/* What the examples share: a recording from a file, and the starts of its strings. */
+/* What the examples share: a recording from a file, and the starts of its strings in a phase. */
 #include <errno.h>
 #include <inttypes.h>
 #include <stdio.h>
@@ -13,11 +13,10 @@ struct recording {
     size_t strings;
 };
 
-/* Takes the recording of a file, or of standard input without a name, and lists it. Where that fails it says why and ends the program. */
+/* Takes the recording of a file, or of standard input without a name. Where that fails it says why and ends the program. */
 static void take_recording(struct recording *recording, const char *program, const char *name)
 {
     FILE *input = name == NULL ? stdin : fopen(name, "rb");
-    struct l1oc_answer answer;
 
     if (input != NULL) {
         recording->length = fread(recording->bytes, 1, sizeof recording->bytes, input);
@@ -29,8 +28,14 @@ static void take_recording(struct recording *recording, const char *program, con
     if (input != stdin) {
         fclose(input);
     }
-    answer =
-        l1oc_list(recording->bytes, recording->length, 8 * recording->length, L1OC_STRAIGHT, recording->starts, L1OC_MAX_STARTS);
+}
+
+/* Lists the recording in a phase. Where that is refused it says why and ends the program. */
+static void list_recording(struct recording *recording, const char *program, uint32_t phase)
+{
+    struct l1oc_answer answer =
+        l1oc_list(recording->bytes, recording->length, 8 * recording->length, phase, recording->starts, L1OC_MAX_STARTS);
+
     if (answer.number == L1OC_TOO_LONG) {
         fprintf(stderr, "%s: the recording is longer than %d bits\n", program, L1OC_MAX_BITS);
         exit(1);

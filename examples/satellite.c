@@ -119,6 +119,7 @@ int main(int argc, char **argv)
         return 2;
     }
     take_recording(&recording, "satellite", argv[1]);
+    list_recording(&recording, "satellite", L1OC_STRAIGHT);
     for (i = 0; i < recording.strings; i++) {
         /* refused where no set stands, and where a string of it is damaged */
         struct l1oc_set_reading reading =
