@@ -1,17 +1,21 @@
 //! That both sides give the same answers and leave the same memory, before they are measured.
 use crate::input::{self, Hour, Numbers, Sets, HOUR_BITS, SETS_BITS};
 use crate::sides::{Library, Peer, Side};
-use l1oc::{Record, Set, MAX_BITS, MAX_STARTS, NUMBERS, RAW_BYTES, SET_BITS};
+use l1oc::Phase::{self, Inverted, Straight};
+use l1oc::{Answer, Record, Set, MAX_BITS, MAX_STARTS, NUMBERS, RAW_BYTES, SET_BITS};
+use std::fmt::Debug;
 
 /// Compares both sides on the inputs, on damaged ones and at the limits. Stops at the first difference.
 pub fn check(hour: &Hour, sets: &Sets, noise: &[u8]) {
-    lists(&hour.bytes, HOUR_BITS);
-    lists(noise, 8 * noise.len());
+    let strings = Recording::new(&hour.bytes);
+    lists(&strings, HOUR_BITS);
     for (&start, record) in hour.starts.iter().zip(&hour.records) {
-        assert_eq!(reads(&hour.bytes, HOUR_BITS, start), (0, *record));
+        assert_eq!(reads(&strings, HOUR_BITS, start), (0, *record));
     }
+    let random = Recording::new(noise);
+    lists(&random, 8 * noise.len());
     for place in 0..8 * noise.len() + 2 {
-        reads(noise, 8 * noise.len(), place);
+        reads(&random, 8 * noise.len(), place);
     }
     writes_hour(hour);
     damaged(hour);
@@ -25,25 +29,54 @@ pub fn check(hour: &Hour, sets: &Sets, noise: &[u8]) {
     }
 }
 
-/// Listing, with a list that is long enough, as long as needed, and too short.
-fn lists(bytes: &[u8], count: usize) {
-    let needed = list_into(bytes, count, MAX_STARTS);
-    for room in [needed, needed.saturating_sub(1), 0] {
-        list_into(bytes, count, room);
+/// A recording and its complement.
+struct Recording {
+    bytes: Vec<u8>,
+    complement: Vec<u8>,
+}
+
+impl Recording {
+    fn new(bytes: &[u8]) -> Self {
+        Self {
+            bytes: bytes.to_vec(),
+            complement: input::complement(bytes),
+        }
+    }
+
+    /// What both sides give of the recording straight, and of its complement inverted. They agree too where it is taken inverted.
+    fn in_phases<T: PartialEq + Debug>(&self, agreed: impl Fn(&[u8], Phase) -> T) -> T {
+        let answer = agreed(&self.bytes, Straight);
+        assert_eq!(answer, agreed(&self.complement, Inverted), "inverted");
+        agreed(&self.bytes, Inverted);
+        answer
     }
 }
 
-fn list_into(bytes: &[u8], count: usize, room: usize) -> usize {
-    let (mut a, mut b) = (vec![u32::MAX; room], vec![u32::MAX; room]);
-    let answer = Library::list(bytes, count, &mut a);
-    assert_eq!(answer, Peer::list(bytes, count, &mut b), "list {room}");
-    assert_eq!(a, b, "list {room}");
-    answer.value as usize
+/// Listing, with a list that is long enough, as long as needed, and too short.
+fn lists(recording: &Recording, count: usize) {
+    let list = |room| recording.in_phases(|bytes, phase| list_into(bytes, count, phase, room));
+    let needed = list(MAX_STARTS).0.value as usize;
+    for room in [needed, needed.saturating_sub(1), 0] {
+        list(room);
+    }
 }
 
-fn reads(bytes: &[u8], count: usize, place: usize) -> (u64, Record) {
-    let reading = Library::read(bytes, count, place);
-    assert_eq!(reading, Peer::read(bytes, count, place), "read {place}");
+fn list_into(bytes: &[u8], count: usize, phase: Phase, room: usize) -> (Answer, Vec<u32>) {
+    let (mut a, mut b) = (vec![u32::MAX; room], vec![u32::MAX; room]);
+    let answer = Library::list(bytes, count, phase, &mut a);
+    let other = Peer::list(bytes, count, phase, &mut b);
+    assert_eq!(answer, other, "list {room} {phase:?}");
+    assert_eq!(a, b, "list {room} {phase:?}");
+    (answer, a)
+}
+
+fn reads(recording: &Recording, count: usize, place: usize) -> (u64, Record) {
+    let reading = recording.in_phases(|bytes, phase| {
+        let reading = Library::read(bytes, count, phase, place);
+        let other = Peer::read(bytes, count, phase, place);
+        assert_eq!(reading, other, "read {place} {phase:?}");
+        reading
+    });
     (reading.number, reading.content)
 }
 
@@ -56,10 +89,13 @@ fn writes(bytes: &[u8], count: usize, place: usize, record: &Record) -> (u64, Ve
     (answer.number, a)
 }
 
-fn reads_set(bytes: &[u8], count: usize, place: usize) -> (u64, Set) {
-    let reading = Library::read_set(bytes, count, place);
-    let other = Peer::read_set(bytes, count, place);
-    assert_eq!(reading, other, "read a set {place}");
+fn reads_set(recording: &Recording, count: usize, place: usize) -> (u64, Set) {
+    let reading = recording.in_phases(|bytes, phase| {
+        let reading = Library::read_set(bytes, count, phase, place);
+        let other = Peer::read_set(bytes, count, phase, place);
+        assert_eq!(reading, other, "read a set {place} {phase:?}");
+        reading
+    });
     (reading.number, reading.content)
 }
 
@@ -74,11 +110,13 @@ fn writes_set(bytes: &[u8], count: usize, place: usize, set: &Set) -> (u64, Vec<
 
 /// The sets; strings that make no set; sets that are damaged, cut or spoilt.
 fn check_sets(hour: &Hour, sets: &Sets) {
+    let recording = Recording::new(&sets.bytes);
     for (&start, set) in sets.starts.iter().zip(&sets.sets) {
-        assert_eq!(reads_set(&sets.bytes, SETS_BITS, start), (0, *set));
+        assert_eq!(reads_set(&recording, SETS_BITS, start), (0, *set));
     }
+    let recording = Recording::new(&hour.bytes);
     for &start in &hour.starts {
-        reads_set(&hour.bytes, HOUR_BITS, start);
+        reads_set(&recording, HOUR_BITS, start);
     }
     let mut numbers = Numbers::new(7);
     for bit in 0..SET_BITS {
@@ -87,9 +125,10 @@ fn check_sets(hour: &Hour, sets: &Sets) {
         let set = input::random_set(&mut numbers);
         let (number, mut written) = writes_set(&bytes, count, at, &set);
         assert_eq!(number, 0);
-        assert_eq!(reads_set(&written, count, at), (0, set));
+        let recording = Recording::new(&written);
+        assert_eq!(reads_set(&recording, count, at), (0, set));
         let cut = at + numbers.within(0, SET_BITS as i64 - 1) as usize;
-        reads_set(&written, cut, at);
+        reads_set(&recording, cut, at);
         writes_set(&bytes, cut, at, &set);
         for _ in 0..10 {
             let spoilt = spoil_set(&mut numbers, set);
@@ -103,10 +142,10 @@ fn check_sets(hour: &Hour, sets: &Sets) {
                 }
                 next = answer.value as usize;
             }
-            reads_set(&strings, count, at);
+            reads_set(&Recording::new(&strings), count, at);
         }
         written[(at + bit) / 8] ^= 0x80 >> ((at + bit) % 8);
-        reads_set(&written, count, at);
+        reads_set(&Recording::new(&written), count, at);
     }
 }
 
@@ -155,9 +194,10 @@ fn damaged(hour: &Hour) {
             bytes[place / 8] ^= 0x80 >> (place % 8);
         }
         let count = HOUR_BITS - numbers.within(0, 400) as usize;
-        lists(&bytes, count);
+        let recording = Recording::new(&bytes);
+        lists(&recording, count);
         for &start in &hour.starts {
-            reads(&bytes, count, start);
+            reads(&recording, count, start);
         }
     }
 }
@@ -166,23 +206,25 @@ fn damaged(hour: &Hour) {
 fn limits(noise: &[u8]) {
     let record = input::random_record(&mut Numbers::new(5), 10);
     let long = [noise, &[0; 8]].concat();
+    let recording = Recording::new(&long);
     for count in [MAX_BITS, MAX_BITS + 1, usize::MAX] {
-        lists(&long, count);
+        lists(&recording, count);
         for place in [0, count.wrapping_sub(250), count, count.wrapping_add(1)] {
-            reads(&long, count, place);
+            reads(&recording, count, place);
             writes(&long, count, place, &record);
         }
     }
     for length in 0..64usize {
+        let recording = Recording::new(&long[..length]);
         for count in [
             0,
             8 * length,
             (8 * length).saturating_sub(3),
             8 * length + 1,
         ] {
-            lists(&long[..length], count);
+            lists(&recording, count);
             for place in 0..count + 2 {
-                reads(&long[..length], count, place);
+                reads(&recording, count, place);
                 writes(&long[..length], count, place, &record);
             }
         }
@@ -196,7 +238,7 @@ fn records(numbers: &mut Numbers, kind: u8) {
         let record = input::random_record(numbers, kind);
         let (number, written) = writes(&bytes, 448, offset, &record);
         assert_eq!(number, 0);
-        assert_eq!(reads(&written, 448, offset), (0, record));
+        assert_eq!(reads(&Recording::new(&written), 448, offset), (0, record));
         for _ in 0..10 {
             let spoilt = spoil(numbers, record);
             writes(&bytes, 448, offset, &spoilt);
@@ -247,7 +289,7 @@ fn out_of_range(numbers: &mut Numbers, kind: u8) {
                 flip_generator(&mut written, place);
             }
         }
-        reads(&written, 512, 0);
+        reads(&Recording::new(&written), 512, 0);
     }
 }
 

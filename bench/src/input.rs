@@ -96,6 +96,11 @@ pub fn sets() -> Sets {
     }
 }
 
+/// The bytes of a recording in opposite phase.
+pub fn complement(bytes: &[u8]) -> Vec<u8> {
+    bytes.iter().map(|byte| !byte).collect()
+}
+
 /// Random bytes.
 pub fn noise() -> Vec<u8> {
     let mut numbers = Numbers::new(2);

@@ -47,6 +47,7 @@ fn inputs() -> Bench {
     Bench {
         list: vec![0; l1oc::MAX_STARTS],
         buffer: vec![0; hour.bytes.len()],
+        inverted: input::complement(&hour.bytes),
         sets: input::sets(),
         noise: input::noise(),
         hour,

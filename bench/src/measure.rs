@@ -1,6 +1,7 @@
 //! The rows of the table: what is timed, in rounds that alternate between the sides.
 use crate::input::{Hour, Sets, HOUR_BITS, SETS_BITS};
 use crate::sides::{Library, Peer, Side};
+use l1oc::Phase::{self, Inverted, Straight};
 use std::hint::black_box;
 
 const ROUNDS: usize = 31;
@@ -14,18 +15,22 @@ extern "C" {
 }
 
 /// The names of the rows.
-pub const ROWS: [&str; 6] = [
+pub const ROWS: [&str; 8] = [
     "list-hour",
     "list-noise",
     "read-hour",
     "write-hour",
     "read-sets",
     "write-sets",
+    "list-inverted",
+    "read-inverted",
 ];
 
 /// What the rows work on.
 pub struct Bench {
     pub hour: Hour,
+    /// The bytes of the hour in opposite phase.
+    pub inverted: Vec<u8>,
     pub sets: Sets,
     pub noise: Vec<u8>,
     pub list: Vec<u32>,
@@ -37,29 +42,15 @@ impl Bench {
     pub fn run<S: Side>(&mut self, row: usize, times: usize) {
         for _ in 0..times {
             match row {
-                0 => self.list::<S>(true),
-                1 => self.list::<S>(false),
-                2 => self.read::<S>(),
+                0 => list::<S>(&self.hour.bytes, HOUR_BITS, Straight, &mut self.list),
+                1 => list::<S>(&self.noise, 8 * self.noise.len(), Straight, &mut self.list),
+                2 => read::<S>(&self.hour.bytes, Straight, &self.hour.starts),
                 3 => self.write::<S>(),
                 4 => self.read_sets::<S>(),
-                _ => self.write_sets::<S>(),
+                5 => self.write_sets::<S>(),
+                6 => list::<S>(&self.inverted, HOUR_BITS, Inverted, &mut self.list),
+                _ => read::<S>(&self.inverted, Inverted, &self.hour.starts),
             }
-        }
-    }
-
-    fn list<S: Side>(&mut self, hour: bool) {
-        let (bytes, count) = if hour {
-            (&self.hour.bytes, HOUR_BITS)
-        } else {
-            (&self.noise, 8 * self.noise.len())
-        };
-        let list = black_box(&mut self.list);
-        black_box(S::list(black_box(bytes), count, list));
-    }
-
-    fn read<S: Side>(&mut self) {
-        for &start in &self.hour.starts {
-            black_box(&S::read(&self.hour.bytes, HOUR_BITS, start));
         }
     }
 
@@ -72,7 +63,7 @@ impl Bench {
 
     fn read_sets<S: Side>(&mut self) {
         for &start in &self.sets.starts {
-            black_box(&S::read_set(&self.sets.bytes, SETS_BITS, start));
+            black_box(&S::read_set(&self.sets.bytes, SETS_BITS, Straight, start));
         }
     }
 
@@ -91,7 +82,7 @@ impl Bench {
 
     /// Prints the table.
     pub fn table(&mut self) {
-        println!("row          library us   peer us   ratio     10 %   90 %");
+        println!("row           library us   peer us   ratio     10 %   90 %");
         for (row, name) in ROWS.iter().enumerate() {
             let fastest = (0..5)
                 .map(|_| self.time::<Peer>(row, 1).min(self.time::<Library>(row, 1)))
@@ -106,7 +97,7 @@ impl Bench {
                 ratio.push(a / b);
             }
             println!(
-                "{name:<12} {:>10.1} {:>9.1} {:>7.3}   {:>6.3} {:>6.3}",
+                "{name:<13} {:>10.1} {:>9.1} {:>7.3}   {:>6.3} {:>6.3}",
                 1e6 * quantile(&mut library, 50),
                 1e6 * quantile(&mut peer, 50),
                 quantile(&mut ratio, 50),
@@ -114,6 +105,19 @@ impl Bench {
                 quantile(&mut ratio, 90),
             );
         }
+    }
+}
+
+/// Lists a recording.
+fn list<S: Side>(bytes: &[u8], count: usize, phase: Phase, list: &mut [u32]) {
+    let list = black_box(list);
+    black_box(S::list(black_box(bytes), count, phase, list));
+}
+
+/// Reads the strings of the hour.
+fn read<S: Side>(bytes: &[u8], phase: Phase, starts: &[usize]) {
+    for &start in starts {
+        black_box(&S::read(bytes, HOUR_BITS, phase, start));
     }
 }
 

@@ -8,16 +8,41 @@ mod search;
 mod set;
 mod write;
 
-pub use read::read;
-pub use search::list;
-pub use set::{read_set, write_set};
+pub use set::write_set;
 pub use write::write;
 
+use bits::{INVERTED, STRAIGHT};
 use l1oc::refusal::{BEYOND_BYTES, BEYOND_COUNT, TOO_LONG};
-use l1oc::{Answer, MAX_BITS};
+use l1oc::{Answer, Phase, Reading, SetReading, MAX_BITS};
 
 /// The time mark, 12 bits.
 const MARK: u64 = 0x5F1;
+
+// Each phase has code of its own, so that a straight recording pays nothing for it.
+
+/// Lists the starts of the strings in the first `count` bits.
+pub fn list(bytes: &[u8], count: usize, phase: Phase, list: &mut [u32]) -> Answer {
+    match phase {
+        Phase::Straight => search::list::<STRAIGHT>(bytes, count, list),
+        Phase::Inverted => search::list::<INVERTED>(bytes, count, list),
+    }
+}
+
+/// Reads the string at a place.
+pub fn read(bytes: &[u8], count: usize, phase: Phase, place: usize) -> Reading {
+    match phase {
+        Phase::Straight => read::read::<STRAIGHT>(bytes, count, place),
+        Phase::Inverted => read::read::<INVERTED>(bytes, count, place),
+    }
+}
+
+/// Reads the set at a place.
+pub fn read_set(bytes: &[u8], count: usize, phase: Phase, place: usize) -> SetReading {
+    match phase {
+        Phase::Straight => set::read_set::<STRAIGHT>(bytes, count, place),
+        Phase::Inverted => set::read_set::<INVERTED>(bytes, count, place),
+    }
+}
 
 /// A number and its value.
 fn answer(number: u64, value: usize) -> Answer {
@@ -48,14 +73,14 @@ fn place_tests(bytes: &[u8], count: usize, place: usize) -> Result<(), Answer> {
 }
 
 /// Whether the check of the string of a type at a place passes.
-fn check_passes(bytes: &[u8], place: usize, kind: u8) -> bool {
+fn check_passes<const PHASE: u8>(bytes: &[u8], place: usize, kind: u8) -> bool {
     let end = place + layout::length(kind);
     let first = place / 8;
     let part = &bytes[first..end.div_ceil(8)];
     let (offset, end) = (place % 8, end - 8 * first);
     if kind == 2 {
-        check::divides::<24>(&check::TABLE24, part, offset, end)
+        check::divides::<24, PHASE>(&check::TABLE24, part, offset, end)
     } else {
-        check::divides::<16>(&check::TABLE16, part, offset, end)
+        check::divides::<16, PHASE>(&check::TABLE16, part, offset, end)
     }
 }

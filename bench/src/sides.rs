@@ -4,10 +4,10 @@ use l1oc::{Answer, Phase, Reading, Record, Set, SetReading};
 
 /// A codec that is measured.
 pub trait Side {
-    fn list(bytes: &[u8], count: usize, list: &mut [u32]) -> Answer;
-    fn read(bytes: &[u8], count: usize, place: usize) -> Reading;
+    fn list(bytes: &[u8], count: usize, phase: Phase, list: &mut [u32]) -> Answer;
+    fn read(bytes: &[u8], count: usize, phase: Phase, place: usize) -> Reading;
     fn write(bytes: &mut [u8], count: usize, place: usize, content: Record) -> Answer;
-    fn read_set(bytes: &[u8], count: usize, place: usize) -> SetReading;
+    fn read_set(bytes: &[u8], count: usize, phase: Phase, place: usize) -> SetReading;
     fn write_set(bytes: &mut [u8], count: usize, place: usize, content: Set) -> Answer;
 }
 
@@ -19,13 +19,13 @@ pub struct Peer;
 
 impl Side for Library {
     #[inline(always)]
-    fn list(bytes: &[u8], count: usize, list: &mut [u32]) -> Answer {
-        l1oc::list(bytes, count, Phase::Straight, list)
+    fn list(bytes: &[u8], count: usize, phase: Phase, list: &mut [u32]) -> Answer {
+        l1oc::list(bytes, count, phase, list)
     }
 
     #[inline(always)]
-    fn read(bytes: &[u8], count: usize, place: usize) -> Reading {
-        l1oc::read(bytes, count, Phase::Straight, place)
+    fn read(bytes: &[u8], count: usize, phase: Phase, place: usize) -> Reading {
+        l1oc::read(bytes, count, phase, place)
     }
 
     #[inline(always)]
@@ -34,8 +34,8 @@ impl Side for Library {
     }
 
     #[inline(always)]
-    fn read_set(bytes: &[u8], count: usize, place: usize) -> SetReading {
-        l1oc::read_set(bytes, count, Phase::Straight, place)
+    fn read_set(bytes: &[u8], count: usize, phase: Phase, place: usize) -> SetReading {
+        l1oc::read_set(bytes, count, phase, place)
     }
 
     #[inline(always)]
@@ -47,14 +47,14 @@ impl Side for Library {
 // The calling convention of the library. A slice is passed as its pointer and its length.
 #[inline(never)]
 #[allow(improper_ctypes_definitions)]
-extern "C" fn peer_list(bytes: &[u8], count: usize, list: &mut [u32]) -> Answer {
-    peer::list(bytes, count, list)
+extern "C" fn peer_list(bytes: &[u8], count: usize, phase: Phase, list: &mut [u32]) -> Answer {
+    peer::list(bytes, count, phase, list)
 }
 
 #[inline(never)]
 #[allow(improper_ctypes_definitions)]
-extern "C" fn peer_read(bytes: &[u8], count: usize, place: usize) -> Reading {
-    peer::read(bytes, count, place)
+extern "C" fn peer_read(bytes: &[u8], count: usize, phase: Phase, place: usize) -> Reading {
+    peer::read(bytes, count, phase, place)
 }
 
 #[inline(never)]
@@ -65,8 +65,8 @@ extern "C" fn peer_write(bytes: &mut [u8], count: usize, place: usize, content: 
 
 #[inline(never)]
 #[allow(improper_ctypes_definitions)]
-extern "C" fn peer_read_set(bytes: &[u8], count: usize, place: usize) -> SetReading {
-    peer::read_set(bytes, count, place)
+extern "C" fn peer_read_set(bytes: &[u8], count: usize, phase: Phase, place: usize) -> SetReading {
+    peer::read_set(bytes, count, phase, place)
 }
 
 #[inline(never)]
@@ -77,13 +77,13 @@ extern "C" fn peer_write_set(bytes: &mut [u8], count: usize, place: usize, conte
 
 impl Side for Peer {
     #[inline(always)]
-    fn list(bytes: &[u8], count: usize, list: &mut [u32]) -> Answer {
-        peer_list(bytes, count, list)
+    fn list(bytes: &[u8], count: usize, phase: Phase, list: &mut [u32]) -> Answer {
+        peer_list(bytes, count, phase, list)
     }
 
     #[inline(always)]
-    fn read(bytes: &[u8], count: usize, place: usize) -> Reading {
-        peer_read(bytes, count, place)
+    fn read(bytes: &[u8], count: usize, phase: Phase, place: usize) -> Reading {
+        peer_read(bytes, count, phase, place)
     }
 
     #[inline(always)]
@@ -92,8 +92,8 @@ impl Side for Peer {
     }
 
     #[inline(always)]
-    fn read_set(bytes: &[u8], count: usize, place: usize) -> SetReading {
-        peer_read_set(bytes, count, place)
+    fn read_set(bytes: &[u8], count: usize, phase: Phase, place: usize) -> SetReading {
+        peer_read_set(bytes, count, phase, place)
     }
 
     #[inline(always)]

@@ -3,13 +3,18 @@
 /// The longest string from any bit of its first byte, and a word more.
 pub const WINDOW: usize = 56;
 
-/// The 64 bits from the byte `at` on, zeros past the end.
+/// What makes a byte's bits the true ones, by exclusive or.
+pub const STRAIGHT: u8 = 0;
+pub const INVERTED: u8 = 0xFF;
+
+/// The 64 true bits from the byte `at` on, anything past the end.
 #[inline]
-pub fn word(bytes: &[u8], at: usize) -> u64 {
-    match bytes.get(at..).and_then(|tail| tail.first_chunk()) {
+pub fn word<const PHASE: u8>(bytes: &[u8], at: usize) -> u64 {
+    let recorded = match bytes.get(at..).and_then(|tail| tail.first_chunk()) {
         Some(chunk) => u64::from_be_bytes(*chunk),
         None => short_word(&bytes[at..]),
-    }
+    };
+    recorded ^ u64::from_be_bytes([PHASE; 8])
 }
 
 #[cold]
@@ -21,14 +26,14 @@ fn short_word(tail: &[u8]) -> u64 {
 
 /// The field of `width` bits, 1 to 57, at a place.
 #[inline]
-pub fn field(bytes: &[u8], place: usize, width: u32) -> u64 {
-    word(bytes, place / 8) << (place % 8) >> (64 - width)
+pub fn field<const PHASE: u8>(bytes: &[u8], place: usize, width: u32) -> u64 {
+    word::<PHASE>(bytes, place / 8) << (place % 8) >> (64 - width)
 }
 
 /// The 64 bits from any place on.
 pub fn any_word(bytes: &[u8; WINDOW], place: usize) -> u64 {
     let (at, skip) = (place / 8, place % 8);
-    word(bytes, at) << skip | u64::from(bytes[at + 8]) >> (8 - skip)
+    word::<STRAIGHT>(bytes, at) << skip | u64::from(bytes[at + 8]) >> (8 - skip)
 }
 
 /// Gathers fields in a word and hands on whole words.

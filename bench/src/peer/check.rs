@@ -42,16 +42,21 @@ pub fn check_bits(table: &Table, bytes: &[u8], count: usize) -> u32 {
 /// Whether the generator divides the bits of `part` from the place `offset` up to `end`. Zeros before and after them do not change
 /// that. The bytes go in at the low end of the register, so that no lookup waits for its byte.
 #[inline]
-pub fn divides<const DEGREE: u32>(table: &Table, part: &[u8], offset: usize, end: usize) -> bool {
+pub fn divides<const DEGREE: u32, const PHASE: u8>(
+    table: &Table,
+    part: &[u8],
+    offset: usize,
+    end: usize,
+) -> bool {
     let [first, middle @ .., last] = part else {
         return false;
     };
     let enter = |byte: u8| u32::from(byte) << (32 - DEGREE);
     let step =
         |register: u32, byte| (register << 8 | enter(byte)) ^ table[(register >> 24) as usize];
-    let mut register = enter(first & (0xFF >> offset));
+    let mut register = enter((first ^ PHASE) & (0xFF >> offset));
     for &byte in middle {
-        register = step(register, byte);
+        register = step(register, byte ^ PHASE);
     }
-    step(register, last & (0xFF << (part.len() * 8 - end))) == 0
+    step(register, (last ^ PHASE) & (0xFF << (part.len() * 8 - end))) == 0
 }

@@ -1,16 +1,17 @@
 //! Reading the string at a place.
-use super::{answer, bits, check_passes, layout, place_tests, refusals, MARK};
+use super::bits::{self, STRAIGHT};
+use super::{answer, check_passes, layout, place_tests, refusals, MARK};
 use l1oc::refusal::{CHECK_FAILS, NO_MARK, RUNS_OUT};
 use l1oc::{Answer, Mark, Reading, Record, RAW_BYTES};
 
 /// Reads the string at a place.
-pub fn read(bytes: &[u8], count: usize, place: usize) -> Reading {
+pub fn read<const PHASE: u8>(bytes: &[u8], count: usize, place: usize) -> Reading {
     let mut reading = Reading {
         number: 0,
         value: 0,
         content: Record::BLANK,
     };
-    match fill(bytes, count, place, &mut reading.content) {
+    match fill::<PHASE>(bytes, count, place, &mut reading.content) {
         Ok(_) => reading,
         Err(Answer { number, value }) => Reading {
             number,
@@ -21,19 +22,24 @@ pub fn read(bytes: &[u8], count: usize, place: usize) -> Reading {
 }
 
 /// Fills a blank record from the string at a place; then the place after it.
-pub fn fill(bytes: &[u8], count: usize, place: usize, r: &mut Record) -> Result<usize, Answer> {
-    let kind = string_tests(bytes, count, place)?;
-    decode(bytes, place, kind, r)?;
+pub fn fill<const PHASE: u8>(
+    bytes: &[u8],
+    count: usize,
+    place: usize,
+    r: &mut Record,
+) -> Result<usize, Answer> {
+    let kind = string_tests::<PHASE>(bytes, count, place)?;
+    decode::<PHASE>(bytes, place, kind, r)?;
     Ok(place + layout::length(kind))
 }
 
 /// Tests 1, 2, 3, 5, 4, 5, 6; then the type of the string.
-fn string_tests(bytes: &[u8], count: usize, place: usize) -> Result<u8, Answer> {
+fn string_tests<const PHASE: u8>(bytes: &[u8], count: usize, place: usize) -> Result<u8, Answer> {
     place_tests(bytes, count, place)?;
     if count - place < 18 {
         return Err(answer(RUNS_OUT, place));
     }
-    let head = bits::field(bytes, place, 18);
+    let head = bits::field::<PHASE>(bytes, place, 18);
     if head >> 6 != MARK {
         return Err(answer(NO_MARK, place));
     }
@@ -41,21 +47,29 @@ fn string_tests(bytes: &[u8], count: usize, place: usize) -> Result<u8, Answer> 
     if count - place < layout::length(kind) {
         return Err(answer(RUNS_OUT, place));
     }
-    if !check_passes(bytes, place, kind) {
+    if !check_passes::<PHASE>(bytes, place, kind) {
         return Err(answer(CHECK_FAILS, place));
     }
     Ok(kind)
 }
 
 /// Fills a blank record with the fields of a string that stands, up to one that tests 7 and 8 refuse.
-fn decode(bytes: &[u8], place: usize, kind: u8, r: &mut Record) -> Result<(), Answer> {
+fn decode<const PHASE: u8>(
+    bytes: &[u8],
+    place: usize,
+    kind: u8,
+    r: &mut Record,
+) -> Result<(), Answer> {
     let offset = place % 8;
     let end = (place + layout::length(kind)).div_ceil(8);
     let part = &bytes[place / 8..end];
     let mut window = [0; bits::WINDOW];
     window[..part.len()].copy_from_slice(part);
+    if PHASE != STRAIGHT {
+        window.iter_mut().for_each(|byte| *byte ^= PHASE);
+    }
 
-    let service = bits::field(&window, offset + 18, 32);
+    let service = bits::field::<STRAIGHT>(&window, offset + 18, 32);
     r.kind = kind;
     r.satellite = (service >> 26 & 63) as u8;
     r.signal = (service >> 25 & 1) as u8;
@@ -71,7 +85,7 @@ fn decode(bytes: &[u8], place: usize, kind: u8, r: &mut Record) -> Result<(), An
     let mut at = offset + 50;
     let fields = layout::fields_of(kind);
     for (i, (field, number)) in fields.iter().zip(&mut r.numbers).enumerate() {
-        let value = bits::field(&window, at, field.width);
+        let value = bits::field::<STRAIGHT>(&window, at, field.width);
         at += field.width as usize;
         if field.signed {
             let sign = value >> (field.width - 1);

@@ -4,11 +4,11 @@ use l1oc::refusal::LIST_SHORT;
 use l1oc::Answer;
 
 /// Lists the starts of the strings in the first `count` bits.
-pub fn list(bytes: &[u8], count: usize, list: &mut [u32]) -> Answer {
+pub fn list<const PHASE: u8>(bytes: &[u8], count: usize, list: &mut [u32]) -> Answer {
     if let Err(refusal) = recording_tests(bytes, count) {
         return refusal;
     }
-    let strings = Strings {
+    let strings = Strings::<PHASE> {
         bytes: &bytes[..count.div_ceil(8)],
         count,
         place: 0,
@@ -30,13 +30,13 @@ pub fn list(bytes: &[u8], count: usize, list: &mut [u32]) -> Answer {
 
 /// The starts of a recording's strings from a place on.
 #[derive(Clone)]
-struct Strings<'a> {
+struct Strings<'a, const PHASE: u8> {
     bytes: &'a [u8],
     count: usize,
     place: usize,
 }
 
-impl Iterator for Strings<'_> {
+impl<const PHASE: u8> Iterator for Strings<'_, PHASE> {
     type Item = usize;
 
     #[inline]
@@ -44,34 +44,35 @@ impl Iterator for Strings<'_> {
         // Mostly a string stands just after the one before.
         let mut place = self.place;
         loop {
-            if let Some(length) = standing(self.bytes, self.count, place) {
+            if let Some(length) = standing::<PHASE>(self.bytes, self.count, place) {
                 self.place = place + length;
                 return Some(place);
             }
-            place = next_mark(self.bytes, place + 1)?;
+            place = next_mark::<PHASE>(self.bytes, place + 1)?;
         }
     }
 }
 
 /// The length of the string that stands at a place.
 #[inline]
-fn standing(bytes: &[u8], count: usize, place: usize) -> Option<usize> {
+fn standing<const PHASE: u8>(bytes: &[u8], count: usize, place: usize) -> Option<usize> {
     if place + 125 > count {
         return None;
     }
-    let head = bits::field(bytes, place, 18);
+    let head = bits::field::<PHASE>(bytes, place, 18);
     let kind = (head & 63) as u8;
     let length = layout::length(kind);
-    let stands = head >> 6 == MARK && place + length <= count && check_passes(bytes, place, kind);
+    let fits = head >> 6 == MARK && place + length <= count;
+    let stands = fits && check_passes::<PHASE>(bytes, place, kind);
     stands.then_some(length)
 }
 
 /// The first place from `place` on with the mark.
-fn next_mark(bytes: &[u8], place: usize) -> Option<usize> {
+fn next_mark<const PHASE: u8>(bytes: &[u8], place: usize) -> Option<usize> {
     let mut at = place / 8;
     let mut open = u64::MAX >> (place % 8);
     while at < bytes.len() {
-        let hits = marks(bits::word(bytes, at)) & open;
+        let hits = marks(bits::word::<PHASE>(bytes, at)) & open;
         if hits != 0 {
             return Some(8 * at + hits.leading_zeros() as usize);
         }

@@ -4,13 +4,13 @@ use l1oc::refusal::{OTHER_SATELLITES, OTHER_TIMES, OTHER_TYPES, RUNS_OUT};
 use l1oc::{Answer, Set, SetReading, SET_BITS};
 
 /// Reads the set at a place.
-pub fn read_set(bytes: &[u8], count: usize, place: usize) -> SetReading {
+pub fn read_set<const PHASE: u8>(bytes: &[u8], count: usize, place: usize) -> SetReading {
     let mut reading = SetReading {
         number: 0,
         value: 0,
         content: Set::BLANK,
     };
-    match fill(bytes, count, place, &mut reading.content) {
+    match fill::<PHASE>(bytes, count, place, &mut reading.content) {
         Ok(()) => reading,
         Err(Answer { number, value }) => SetReading {
             number,
@@ -21,10 +21,15 @@ pub fn read_set(bytes: &[u8], count: usize, place: usize) -> SetReading {
 }
 
 /// Fills a blank set from the strings from a place on, up to one that is refused; then tests it.
-fn fill(bytes: &[u8], count: usize, place: usize, set: &mut Set) -> Result<(), Answer> {
-    let second = read::fill(bytes, count, place, &mut set.first)?;
-    let third = read::fill(bytes, count, second, &mut set.second)?;
-    read::fill(bytes, count, third, &mut set.third)?;
+fn fill<const PHASE: u8>(
+    bytes: &[u8],
+    count: usize,
+    place: usize,
+    set: &mut Set,
+) -> Result<(), Answer> {
+    let second = read::fill::<PHASE>(bytes, count, place, &mut set.first)?;
+    let third = read::fill::<PHASE>(bytes, count, second, &mut set.second)?;
+    read::fill::<PHASE>(bytes, count, third, &mut set.third)?;
     set_tests(set)
 }
 

@@ -1,5 +1,5 @@
 //! Writing a record as a string.
-use super::bits::{self, Writer};
+use super::bits::{self, Writer, STRAIGHT};
 use super::{answer, check, layout, place_tests, refusals, MARK};
 use l1oc::refusal::RUNS_OUT;
 use l1oc::{Answer, Record};
@@ -50,7 +50,7 @@ fn encode(offset: usize, r: &Record, fields: &[layout::Field]) -> [u8; bits::WIN
         let mut left = layout::raw_bits(r.kind);
         for chunk in r.raw.chunks(8).take(left.div_ceil(64)) {
             let width = left.min(64) as u32;
-            writer.put(width, bits::word(chunk, 0) >> (64 - width));
+            writer.put(width, bits::word::<STRAIGHT>(chunk, 0) >> (64 - width));
             left -= width as usize;
         }
     }
