@@ -16,7 +16,7 @@ use Rattle.bits.proofs.Numbers.{number-injective, bits-back}
 use Rattle.bits.proofs.Words.{at-shl, no-ones, first-one, before-first}
 use Rattle.format.specs.Strings.{mark, stringBits}
 use Rattle.format.proofs.Agree.{string-bits}
-use Rattle.search.specs.Search.{MarkAt, MarkFree, NextMark, Hits}
+use Rattle.search.specs.Search.{MarkAt, NextMark, Hits}
 
 mark-fits : (u : List Bool) (p : ℕ) → MarkAt u p → p + 12 ≤ length u
 unfolding cut MarkAt
@@ -25,6 +25,11 @@ mark-fits u p m =
     omega (arith, length-take 12 (drop p u), length-drop p u)
 
 -- ---- places without the mark
+
+-- No place from `from` to below `to` has the mark.
+unfoldable pub MarkFree : List Bool → ℕ → ℕ → Type 0
+MarkFree bits from to = (place : ℕ) → from ≤ place → place < to → MarkAt bits place → ⊥
+
 module _ (u : List Bool) where
   pub free-none : (p : ℕ) → MarkFree u p p
   unfolding MarkFree

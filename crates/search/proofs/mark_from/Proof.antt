@@ -3,8 +3,7 @@ use Prim.Native.Nat.{_-_, _≤_}
 use native.Mathlib.Omega.{arith}
 use borrow.Author.Needs.{needs}
 use Rattle.bits.specs.Bits.{recorded}
-use Rattle.search.specs.Search.{MarkFree}
-use Rattle.search.proofs.Searching.{free-none, free-more, next-here, next-end}
+use Rattle.search.proofs.Searching.{MarkFree, free-none, free-more, next-here, next-end}
 use Rattle.search.proofs.mark_from.Statement.{statement}
 use Rattle.search.proofs.mark_from.Tie as tie
 

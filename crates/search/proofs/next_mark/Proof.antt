@@ -10,8 +10,8 @@ use lib.Count.{leading-le}
 use lib.Pow.{pow-pos}
 use borrow.Author.Needs.{needs}
 use Rattle.bits.specs.Bits.{recorded}
-use Rattle.search.specs.Search.{MarkFree, Hits}
-use Rattle.search.proofs.Searching.{free-none, free-join, next-on, hits-at, hits-word, hits-none, hits-first}
+use Rattle.search.specs.Search.{Hits}
+use Rattle.search.proofs.Searching.{MarkFree, free-none, free-join, next-on, hits-at, hits-word, hits-none, hits-first}
 use Rattle.search.proofs.next_mark.Statement.{statement}
 use Rattle.search.proofs.next_mark.Tie as tie
 
