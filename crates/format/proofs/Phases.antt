@@ -9,14 +9,14 @@ use Rattle.bits.specs.declared.Phase.the-variants.{Straight}
 use Rattle.bits.specs.Bits.{trueBytes}
 use Rattle.bits.proofs.Phases.{length-true-bytes, recorded-true}
 use Rattle.format.specs.declared.Reading.{Reading}
-use Rattle.format.specs.declared.Set.{Set}
 use Rattle.format.specs.declared.SetReading.{SetReading}
 use Rattle.format.specs.Reading.{recordAt, beside, reading}
 use Rattle.format.specs.Records.{fieldTests}
-use Rattle.format.specs.Sets.{besideSet, setTests, setReading}
+use Rattle.format.specs.Sets.{setReading}
 use Rattle.format.specs.Standing.{stringTests}
 use Rattle.format.specs.Strings.{lengthOf}
 use Rattle.format.specs.Tests.{_then_, placeTests}
+use Rattle.format.proofs.Sets.{from-first}
 
 -- what reading gives, of how many bytes there are and the true bits
 abbrev read-of : ℕ → ℕ → ℕ → List Bool → Reading
@@ -28,8 +28,7 @@ abbrev set-of : ℕ → (ℕ → Reading) → SetReading
 set-of place at =
     let second : ℕ = place + lengthOf (at place .content .kind) in
     let third : ℕ = second + lengthOf (at second .content .kind) in
-    let s : Set = record { first = at place .content; second = at second .content; third = at third .content } in
-    besideSet (at place .answer then at second .answer then at third .answer then setTests s) s
+    from-first (at place) (at second) (at third)
 
 module _ (φ : Phase) (bytes : List ℕ) (count : ℕ) (below : (i : ℕ) → getD bytes i 0 < 256) where
   pub reads-straight : (place : ℕ) → reading φ bytes count place ≡ reading Straight (trueBytes φ bytes) count place

@@ -171,7 +171,7 @@ from-third x y z = z .answer then setTests (three x y z)
 abbrev from-second : Reading → Reading → Reading → Answer
 from-second x y z = y .answer then from-third x y z
 
-abbrev from-first : Reading → Reading → Reading → SetReading
+abbrev pub from-first : Reading → Reading → Reading → SetReading
 from-first x y z = besideSet (x .answer then from-second x y z) (three x y z)
 
 alike : (x y y' z z' : Reading) → (x .answer ≡ Passed → y ≡ y') → (x .answer ≡ Passed → y' .answer ≡ Passed → z ≡ z')
