@@ -1,4 +1,5 @@
 // Answers: their numbers and values in the paper, tests one after another, and the tests of a bit count and a place.
+#![tactic(auto)]
 ghost use Rattle.std.specs.Prelude.{◌≡◌, ◌^◌, ◌<◌};
 ghost use Rattle.format.specs.Answers.{refusal_code, answer_code, outcome_code};
 ghost use Rattle.format.specs.Tests.{is_passed, ◌then◌, count_tests, place_tests};
@@ -7,7 +8,7 @@ use format::{Answer, Limits, Outcome, Refusal};
 
 // An answer: 0 and the value asked for, or the number of a refusal and its value.
 #[repr(C)]
-#[derive(Drop)]
+#[derive(Clone, Copy)]
 pub struct Code {
     pub number: u64,
     pub value: u64,

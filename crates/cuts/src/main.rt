@@ -1,5 +1,6 @@
 // Document 01's plain example 12: reads the string at the start of its standard input with every bit count up to its length, and prints
 // each count with reading's number.
+#![tactic(auto)]
 ghost use Rattle.std.specs.Prelude.{◌+◌, ◌*◌, ◌≤◌, ◌<◌, length};
 ghost use Rattle.text.specs.Text.{Wrote};
 ghost use Rattle.cuts.specs.Cuts.{count_line, cuts, counts, cut_most};

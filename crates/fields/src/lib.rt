@@ -1,4 +1,5 @@
 // A type's information fields: their bits fetched as numbers, and numbers put as their bits.
+#![tactic(auto)]
 ghost use Rattle.std.specs.Prelude.{◌≡◌, true, false, ◌+◌, ◌*◌, ◌-◌, ◌^◌, ◌<◌, ◌≤◌, pos, nat_abs, length, drop};
 ghost use Rattle.bits.specs.Bits.{number, bits, unpack, true_bits, put};
 ghost use Rattle.format.specs.Fields.{widest, total, codes};
@@ -11,7 +12,7 @@ use bits::Phase;
 use format::{Mark, PLACES};
 
 // The numbers of a type's information fields, and their minus-zero mark.
-#[derive(Drop)]
+#[derive(Clone, Copy)]
 pub struct Numbers {
     pub numbers: [i64; PLACES],
     pub minus: Mark,
@@ -79,7 +80,7 @@ fn code(signed: bool, width: usize, v: i64, minus: bool) -> u64
 }
 
 // Bits that are to be put from the place `at` on, as a number; they are held until more do not fit in a word.
-#[derive(Drop)]
+#[derive(Clone, Copy)]
 pub struct Held {
     pub at: usize,
     pub word: u64,

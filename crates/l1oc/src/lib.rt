@@ -1,4 +1,5 @@
 // The C interface (`include/l1oc.h`): each function gives the answer of a proved one as the paper's number and value.
+#![tactic(auto)]
 ghost use Rattle.std.specs.Prelude.{◌≡◌, length};
 ghost use Rattle.format.specs.Answers.{outcome_code, value_code};
 ghost use Rattle.format.specs.Demand3.{ListPromise};
@@ -17,7 +18,7 @@ use format::{Record, Set, Value};
 
 // What reading answers: 0 and 0 beside the record, or a refusal beside a blank one.
 #[repr(C)]
-#[derive(Drop)]
+#[derive(Clone, Copy)]
 pub struct ReadCode {
     pub number: u64,
     pub value: u64,
@@ -26,7 +27,7 @@ pub struct ReadCode {
 
 // What reading a set answers: 0 and 0 beside the set, or a refusal beside three blank records.
 #[repr(C)]
-#[derive(Drop)]
+#[derive(Clone, Copy)]
 pub struct SetCode {
     pub number: u64,
     pub value: u64,
@@ -35,7 +36,7 @@ pub struct SetCode {
 
 // What scaling answers: 0 and 0 beside the value, or a refusal beside 0.0.
 #[repr(C)]
-#[derive(Drop)]
+#[derive(Clone, Copy)]
 pub struct ValueCode {
     pub number: u64,
     pub value: u64,

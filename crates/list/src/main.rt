@@ -1,4 +1,5 @@
 // The program `list`: it lists the recording on its standard input. What it prints is `report` of the crate `report`.
+#![tactic(auto)]
 ghost use Rattle.std.specs.Prelude.{length};
 ghost use Rattle.list.specs.Input.{CameIn};
 
@@ -6,7 +7,7 @@ ghost use Rattle.list.specs.Input.{CameIn};
 const PATIENCE: usize = 67108864;
 
 // What came from standard input: so many bytes, none at its end; or it can't be read.
-#[derive(Drop)]
+#[derive(Clone, Copy)]
 pub enum Input {
     Came(usize),
     Unreadable,

@@ -1,4 +1,5 @@
 // Writes the three strings of document 01's example end to end, with 7 zero bits after them, and prints the recording.
+#![tactic(auto)]
 use format::Record;
 
 fn content(kind: u8, correction: u8, next: u8, time: u64) -> Record {

@@ -1,4 +1,5 @@
 // What stands at a place of a recording.
+#![tactic(auto)]
 ghost use Rattle.std.specs.Prelude.{◌≡◌, ◌≤◌};
 ghost use Rattle.bits.specs.Bits.{number, true_bits, recorded, cut, Covers};
 ghost use Rattle.format.specs.Standing.{standing};
@@ -10,7 +11,7 @@ use bits::Phase;
 
 // What is at a place, up to the check: fewer than 18 bits, no mark, a string that runs past the bit count; or the type and the length of
 // a string that stands there if its check passes.
-#[derive(Drop)]
+#[derive(Clone, Copy)]
 pub enum Frame {
     Short,
     Unmarked,

@@ -1,4 +1,5 @@
 // What a string of a type is: its length, its check bits, its raw bits and its fields.
+#![tactic(auto)]
 pub mod rows;
 
 ghost use Rattle.std.specs.Prelude.{◌≡◌, true, map, ◌↔◌, ◌+◌, ◌*◌, ◌^◌, ◌<◌, ◌≤◌, length};

@@ -14,7 +14,7 @@ pub const WIDTHS: [[u8; PLACES]; 6] = [
 
 // What else a type's fields are, place by place: whether signed, the least and the greatest number, and the k of the power 2 ^ -k, which is
 // 0 where there is none. All is 0 at a place that the type does not use. The column of the greatest numbers names the fields.
-#[derive(Drop)]
+#[derive(Clone, Copy)]
 pub struct Row {
     pub signed: [bool; PLACES],
     pub least: [i64; PLACES],

@@ -3,3 +3,4 @@
 // `proofs/Witnesses` the facts. Recordings that meet all premises but one, so that demand 3 fails: `specs/Needed` and `proofs/Needed`.
 // Records that write, recordings that agree where a string is, values as floats, and ephemeris sets: `Writable`, `Covered`, `Values` and
 // `Sets` there.
+#![tactic(auto)]

@@ -1,0 +1,128 @@
+-- `fields::put_numbers`: what the loop has written or holds when it has come to the place i of the record. Assumes nothing.
+use mathlib.Core.Path.{◌≡◌, ◌∙◌}
+use mathlib.Core.Bool.{Bool}
+use mathlib.Core.List.{List, map}
+use Prim.Native.Nat.{ℕ, ◌+◌, ◌-◌, ◌^◌, ◌≤◌, ◌<◌}
+use native.Mathlib.Omega.{arith}
+use lib.IntN.{ℤ, pos}
+use lib.ListN.{length, get_or}
+use mir.Facts.{to_z-of_z}
+use mir.Syntax.{w64}
+use mir.Val.{to_z, of_z}
+use borrow.Author.Rules.{rules}
+use Rattle.bits.proofs.Bytes.{length-unpack}
+use Rattle.bits.specs.Bits.{unpack}
+use Rattle.format.specs.Fields.{width, total}
+use Rattle.format.specs.Types.{places, places_of}
+use Rattle.types.specs.Rows.{Describes}
+use Rattle.fields.proofs.Coding.{WrittenSoFar, put-at-same, odd_seen, written_start, written_same, written_all, left_here}
+use Rattle.fields.proofs.Coding.{narrow_here, room-here, code_asks, x_fits, written_on}
+use Rattle.fields.proofs.Holding.{held_none}
+use Rattle.fields.specs.Coded.{after_held}
+use Rattle.fields.proofs.put_numbers.Goals as goal
+
+pub loop-at-init : goal.loop-at-init
+loop-at-init c =
+    let u = unpack c.args.part.now in
+    let l : length c.args.numbers ≡ places = search rules in
+    let h = length-unpack c.args.part.now in
+    let room : c.args.from + total (places_of c.args.kind) ≤ length u = omega (arith, h, c.requires.to_value.0, c.requires.to_value.1) in (
+      omega arith,
+      search rules,
+      omega arith,
+      omega arith,
+      omega arith,
+      written_same (written_start room l c.requires.tested) (held_none c.args.from u),
+    )
+
+pub bounds-widths-i : goal.bounds-widths-i
+bounds-widths-i c =
+    let Written : List Bool → ℕ → ℕ → ℕ → Type 0 =
+        WrittenSoFar c.args.from c.args.kind c.args.minus c.args.numbers (unpack c.args.part.now) in
+    let below : c.loop-at.i < places = left_here c.loop-at.invariant.5 (omega (arith, c.requires.to_value.0)) in
+    below
+
+pub bounds-signs-i : goal.bounds-signs-i
+bounds-signs-i c =
+    let Written : List Bool → ℕ → ℕ → ℕ → Type 0 =
+        WrittenSoFar c.args.from c.args.kind c.args.minus c.args.numbers (unpack c.args.part.now) in
+    let below : c.loop-at.i < places = left_here c.loop-at.invariant.5 (omega (arith, c.requires.to_value.0)) in
+    below
+
+pub bounds-numbers-i : goal.bounds-numbers-i
+bounds-numbers-i c =
+    let Written : List Bool → ℕ → ℕ → ℕ → Type 0 =
+        WrittenSoFar c.args.from c.args.kind c.args.minus c.args.numbers (unpack c.args.part.now) in
+    let below : c.loop-at.i < places = left_here c.loop-at.invariant.5 (omega (arith, c.requires.to_value.0)) in
+    below
+
+pub code-x-requires : goal.code-x-requires
+code-x-requires c =
+    let Written : List Bool → ℕ → ℕ → ℕ → Type 0 =
+        WrittenSoFar c.args.from c.args.kind c.args.minus c.args.numbers (unpack c.args.part.now) in
+    let long : length c.args.numbers ≡ places = search rules in
+    let below : c.loop-at.i < places = left_here c.loop-at.invariant.5 (omega (arith, c.requires.to_value.0)) in
+    let below-here : c.loop-at.i < places = below in
+    let number : to_z w64 (of_z w64 (get_or c.args.numbers c.loop-at.i (pos 0))) ≡ get_or c.args.numbers c.loop-at.i (pos 0) =
+        to_z-of_z {w = w64} (record { sfits = c.code-arg-1.given }) in
+    code_asks c.loop-at.invariant.5 c.widths_of-widths.ensures c.row_of-row.ensures below-here long number (odd_seen c.loop-at.marks)
+
+pub hold-held-requires : goal.hold-held-requires
+hold-held-requires c =
+    let Written : List Bool → ℕ → ℕ → ℕ → Type 0 =
+        WrittenSoFar c.args.from c.args.kind c.args.minus c.args.numbers (unpack c.args.part.now) in
+    let long : length c.args.numbers ≡ places = search rules in
+    let below : c.loop-at.i < places = left_here c.loop-at.invariant.5 (omega (arith, c.requires.to_value.0)) in
+    let below-here : c.loop-at.i < places = below in
+    let number : to_z w64 (of_z w64 (get_or c.args.numbers c.loop-at.i (pos 0))) ≡ get_or c.args.numbers c.loop-at.i (pos 0) =
+        to_z-of_z {w = w64} (record { sfits = c.code-arg-1.given }) in
+    let narrow = narrow_here c.loop-at.invariant.5 c.widths_of-widths.ensures c.row_of-row.ensures below-here in
+    let room = room-here c.loop-at.invariant.5 c.widths_of-widths.ensures c.row_of-row.ensures below-here in
+    let seen = odd_seen c.loop-at.marks in
+    let small = x_fits c.loop-at.invariant.5 c.widths_of-widths.ensures c.row_of-row.ensures below-here long number seen c.code-x.ensures in
+    let on = c.loop-at.invariant.4 in record { count_bound = (c.loop-at.invariant.2, c.loop-at.invariant.3, narrow, small); width_bound = (omega (arith, room, on, c.requires.to_value.0, c.requires.to_value.1), omega (arith, room, on, c.requires.to_value.0)) }
+
+pub overflow_add-at : goal.overflow_add-at
+overflow_add-at c =
+    let Written : List Bool → ℕ → ℕ → ℕ → Type 0 =
+        WrittenSoFar c.args.from c.args.kind c.args.minus c.args.numbers (unpack c.args.part.now) in
+    let below : c.loop-at.i < places = left_here c.loop-at.invariant.5 (omega (arith, c.requires.to_value.0)) in
+    let below-here : c.loop-at.i < places = below in
+    record { fits = omega (arith, room-here c.loop-at.invariant.5 c.widths_of-widths.ensures c.row_of-row.ensures below-here, c.requires.to_value.0) }
+
+pub loop-at-smaller : goal.loop-at-smaller
+loop-at-smaller c =
+    let Written : List Bool → ℕ → ℕ → ℕ → Type 0 =
+        WrittenSoFar c.args.from c.args.kind c.args.minus c.args.numbers (unpack c.args.part.now) in
+    let below : c.loop-at.i < places = left_here c.loop-at.invariant.5 (omega (arith, c.requires.to_value.0)) in
+    let below-here : c.loop-at.i < places = below in
+    omega (arith, below-here)
+
+pub loop-at-preserved : goal.loop-at-preserved
+loop-at-preserved c =
+    let Written : List Bool → ℕ → ℕ → ℕ → Type 0 =
+        WrittenSoFar c.args.from c.args.kind c.args.minus c.args.numbers (unpack c.args.part.now) in
+    let long : length c.args.numbers ≡ places = search rules in
+    let below : c.loop-at.i < places = left_here c.loop-at.invariant.5 (omega (arith, c.requires.to_value.0)) in
+    let below-here : c.loop-at.i < places = below in
+    let number : to_z w64 (of_z w64 (get_or c.args.numbers c.loop-at.i (pos 0))) ≡ get_or c.args.numbers c.loop-at.i (pos 0) =
+        to_z-of_z {w = w64} (record { sfits = c.code-arg-1.given }) in
+    let e = c.hold-held.ensures in
+    let code = c.code-x.ensures in
+    let z = put-at-same _ _ c.loop-at.invariant.4 e.1 in
+    let on = written_on c.loop-at.invariant.5 c.widths_of-widths.ensures c.row_of-row.ensures below-here long number (odd_seen c.loop-at.marks) code z in
+    (omega (arith, below-here), search rules, e.0.1, e.0.2, omega (arith, e.0.0, c.loop-at.invariant.4), on)
+
+pub put_field-requires : goal.put_field-requires
+put_field-requires c =
+    let Written : List Bool → ℕ → ℕ → ℕ → Type 0 =
+        WrittenSoFar c.args.from c.args.kind c.args.minus c.args.numbers (unpack c.args.part.now) in
+    let p = c.loop-at.invariant.5.place in
+    let h = c.loop-at.invariant.4 in
+    (c.loop-at.invariant.2, c.loop-at.invariant.3, omega (arith, p, h, c.requires.to_value.0, c.requires.to_value.1), omega (arith, p, h, c.requires.to_value.0))
+
+pub returns : goal.returns
+returns c =
+    let Written : List Bool → ℕ → ℕ → ℕ → Type 0 =
+        WrittenSoFar c.args.from c.args.kind c.args.minus c.args.numbers (unpack c.args.part.now) in
+    c.put_field.ensures ∙ written_all c.loop-at.invariant.5 (omega (arith, c.requires.to_value.0))

@@ -1,0 +1,11 @@
+-- `l1oc::l1oc_read`: what reading promises, with its answer's number and value. Assumes nothing.
+use borrow.Author.Rules.{rules}
+use Rattle.l1oc.proofs.Codes.{reads}
+use Rattle.l1oc.proofs.l1oc_read.Goals as goal
+
+pub returns : goal.returns
+returns c =
+    let a = c.args in
+    let e = c.answer_code-code.ensures in
+    reads c.phase_of.ensures a.bytes.now a.count a.place _ c.answer_code-code.result
+    c.read-found.ensures (e.0, e.1)

@@ -1,0 +1,9 @@
+-- `l1oc::l1oc_scaled`: what scaling promises, with its answer's number, value and float. Assumes nothing.
+use borrow.Author.Rules.{rules}
+use Rattle.l1oc.proofs.Codes.{scales}
+use Rattle.l1oc.proofs.l1oc_scaled.Goals as goal
+
+pub returns : goal.returns
+returns c =
+    let a = c.args in
+    scales a.content a.field _ c.value_code.result c.scaled-answer.ensures c.value_code.ensures

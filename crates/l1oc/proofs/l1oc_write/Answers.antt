@@ -1,0 +1,9 @@
+-- `l1oc::l1oc_write`: what writing promises, with its answer's number and value. Assumes nothing.
+use borrow.Author.Rules.{rules}
+use Rattle.l1oc.proofs.Codes.{writes}
+use Rattle.l1oc.proofs.l1oc_write.Goals as goal
+
+pub returns : goal.returns
+returns c =
+    let a = c.args in
+    writes a.bytes.now a.count a.place a.content _ _ c.outcome_code.result c.write-answer.ensures c.outcome_code.ensures

@@ -1,0 +1,7 @@
+-- `reading::refused`. Assumes nothing.
+use mathlib.Core.Path.{refl}
+use borrow.Author.Rules.{rules}
+use Rattle.reading.proofs.refused.Goals as goal
+
+pub returns : goal.returns
+returns c = rw c.blank_record.ensures refl

@@ -1,0 +1,12 @@
+-- `report::line_numbers`: the service fields from the bytes that they cover, and reading's number. Assumes nothing.
+use native.Mathlib.Omega.{arith}
+use borrow.Author.Rules.{rules}
+use Rattle.bits.proofs.Phases.{part_covers}
+use Rattle.report.proofs.Printing.{line_is}
+use Rattle.report.proofs.line_numbers.Goals as goal
+
+pub service_numbers-service-requires : goal.service_numbers-service-requires
+service_numbers-service-requires c = part_covers _ _ 50 (omega arith)
+
+pub returns : goal.returns
+returns c = line_is _ _ (omega arith) c.service_numbers-service.ensures c.result_at-result.ensures

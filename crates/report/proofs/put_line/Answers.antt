@@ -1,0 +1,6 @@
+-- `report::put_line`: the row of the line's numbers. Assumes nothing.
+use borrow.Author.Rules.{rules}
+use Rattle.report.proofs.put_line.Goals as goal
+
+pub returns : goal.returns
+returns c = rw c.line_numbers-numbers.ensures at c.put_row.ensures

@@ -1,0 +1,7 @@
+-- `sets::refused`. Assumes nothing.
+use mathlib.Core.Path.{refl}
+use borrow.Author.Rules.{rules}
+use Rattle.sets.proofs.refused.Goals as goal
+
+pub returns : goal.returns
+returns c = rw c.blank_record-blank.ensures refl

@@ -1,0 +1,49 @@
+-- `types::raw_count`: computed for each type that is named. Assumes nothing.
+use mathlib.Core.Path.{refl}
+use borrow.Author.Tests.{ne_eqb}
+use Rattle.format.specs.Strings.{length_of, generator_of}
+use Rattle.format.specs.Types.{places_of, raw_count}
+use Rattle.types.proofs.raw_count.Goals as goal
+
+pub returns-in-1 : goal.returns-in-1
+unfolding places_of raw_count length_of generator_of
+returns-in-1 c = rw c.in-1.is refl
+
+pub returns-in-2 : goal.returns-in-2
+unfolding places_of raw_count length_of generator_of
+returns-in-2 c = rw c.in-2.is refl
+
+pub returns-in-10 : goal.returns-in-10
+unfolding places_of raw_count length_of generator_of
+returns-in-10 c = rw c.in-10.is refl
+
+pub returns-in-11 : goal.returns-in-11
+unfolding places_of raw_count length_of generator_of
+returns-in-11 c = rw c.in-11.is refl
+
+pub returns-in-12 : goal.returns-in-12
+unfolding places_of raw_count length_of generator_of
+returns-in-12 c = rw c.in-12.is refl
+
+pub returns-in-20 : goal.returns-in-20
+unfolding places_of raw_count length_of generator_of
+returns-in-20 c = rw c.in-20.is refl
+
+pub returns-in-25 : goal.returns-in-25
+unfolding places_of raw_count length_of generator_of
+returns-in-25 c = rw c.in-25.is refl
+
+pub returns-in_default : goal.returns-in_default
+unfolding places_of raw_count length_of generator_of
+returns-in_default c =
+    let r = c.in-1.rest in
+    let other = r.0.0.0 in
+    simp (
+      ne_eqb _ _ other.0.0.0.1,
+      ne_eqb _ _ other.0.0.1,
+      ne_eqb _ _ other.0.1,
+      ne_eqb _ _ other.1,
+      ne_eqb _ _ r.0.0.1,
+      ne_eqb _ _ r.0.1,
+      ne_eqb _ _ r.1,
+    )

@@ -1,0 +1,107 @@
+-- `values::accuracy`: the table at the factor plus 15, and 0 past its end. Assumes nothing.
+use mathlib.Core.Path.{◌≡◌, refl, sym, ap, ◌∙◌}
+use mathlib.Core.Bool.{Bool, true, false, cond, ◌&&◌, and-eq-true_iff}
+use Prim.Native.Nat.{ℕ, suc, ◌-◌, ◌≤◌, ◌<◌}
+use native.Mathlib.Nat.{lt_of_lt_of_le}
+use native.Mathlib.Omega.{arith}
+use lib.Dec.{ltb, leb, lit≤}
+use lib.IntN.{ℤ, pos, negsuc, nat_abs, sub_ℕ, ◌+ℤ◌}
+use lib.ListN.{get_or}
+use lib.Signed.{le_z}
+use mir.Facts.{to_z-of_z}
+use mir.Syntax.{w64}
+use mir.Val.{SFits, to_z, of_z}
+use borrow.Author.Rules.{rules}
+use borrow.Author.Tests.{not-true, not-false, leb-true, le-ltb}
+use Rattle.format.specs.declared.Outcome.TheVariants.{Given, NotGiven}
+use Rattle.format.specs.declared.Refusal.TheVariants.{OutOfRange}
+use Rattle.format.specs.Fields.{in_range}
+use Rattle.format.specs.Records.{ranges}
+use Rattle.format.specs.Values.{centimetres, above_least, accuracy}
+use Rattle.format.proofs.Numbered.{accuracy_promised}
+use Rattle.values.proofs.accuracy.Goals as goal
+
+abbrev is_factor : ℤ → Bool
+is_factor f = le_z (negsuc 14) f && le_z f (pos 15)
+
+no-factor : (f : ℤ) → is_factor f ≡ false → NotGiven (OutOfRange 19) ≡ accuracy f
+unfolding accuracy ranges in_range
+no-factor f e = rw e
+
+in_table : (f : ℤ) → is_factor f ≡ true → Given (get_or centimetres (above_least f) 0) ≡ accuracy f
+unfolding accuracy ranges in_range
+in_table f e = rw e
+
+sum_is : (f : ℤ) → is_factor f ≡ true → (f +ℤ pos 15 ≡ pos (above_least f)) × (above_least f < 31)
+sum_is (pos m) e = let h : m ≤ 15 = leb-true m 15 e in (refl, omega arith)
+sum_is (negsuc m) e =
+    let h : m ≤ 14 = leb-true m 14 ((and-eq-true_iff (leb m 14) _).0 e).0 in
+    let t : ltb 15 (suc m) ≡ false = le-ltb 15 (suc m) (omega arith) in
+    let d : sub_ℕ 15 (suc m) ≡ pos (15 - suc m) = ap (λ (b : Bool). cond b (negsuc (suc m - 16)) (pos (15 - suc m))) t in
+    (d ∙ ap (λ (z : ℤ). pos (nat_abs z)) (sym d), rw d (omega arith))
+
+place : (c : tie.Else1)
+    → nat_abs (to_z w64 (of_z w64 (to_z w64 (of_z w64 (factor c)) +ℤ pos 15))) ≡ above_least (factor c)
+place c = ap nat_abs (sum_back c)
+
+pub returns-then-not-between : goal.returns-then-not-between
+returns-then-not-between c =
+    let t = simp (to_z-of_z {w = w64} c.ranges.factor) at c.between.ensures in
+    accuracy_promised (no-factor c.args.factor (sym t ∙ not-true _ c.if-not-between.true))
+
+pub overflow_add-i : goal.overflow_add-i
+overflow_add-i c =
+    let passed : is_factor c.args.factor ≡ true =
+        let t = simp (to_z-of_z {w = w64} c.ranges.factor) at c.between.ensures in
+    sym t ∙ not-false _ c.if-not-between.false in
+    let sum : to_z w64 (of_z w64 c.args.factor) +ℤ pos 15 ≡ pos (above_least c.args.factor) =
+        rw (to_z-of_z {w = w64} c.ranges.factor) (sum_is c.args.factor passed).0 in
+    let few : above_least c.args.factor < 31 = (sum_is c.args.factor passed).1 in
+    let sum_fits : SFits w64 (to_z w64 (of_z w64 c.args.factor) +ℤ pos 15) =
+        rw sum (record { sfits = lt_of_lt_of_le few (lit≤ tt) }) in
+    sum_fits
+
+pub overflow_cast-i : goal.overflow_cast-i
+overflow_cast-i c =
+    let passed : is_factor c.args.factor ≡ true =
+        let t = simp (to_z-of_z {w = w64} c.ranges.factor) at c.between.ensures in
+    sym t ∙ not-false _ c.if-not-between.false in
+    let sum : to_z w64 (of_z w64 c.args.factor) +ℤ pos 15 ≡ pos (above_least c.args.factor) =
+        rw (to_z-of_z {w = w64} c.ranges.factor) (sum_is c.args.factor passed).0 in
+    let few : above_least c.args.factor < 31 = (sum_is c.args.factor passed).1 in
+    let sum_fits : SFits w64 (to_z w64 (of_z w64 c.args.factor) +ℤ pos 15) =
+        rw sum (record { sfits = lt_of_lt_of_le few (lit≤ tt) }) in
+    let sum_back : to_z w64 (of_z w64 (to_z w64 (of_z w64 c.args.factor) +ℤ pos 15)) ≡ pos (above_least c.args.factor) =
+        to_z-of_z {w = w64} sum_fits ∙ sum in
+    rw sum_back (tt, record { fits = lt_of_lt_of_le few (lit≤ tt) })
+
+pub returns-then-i-eq30 : goal.returns-then-i-eq30
+returns-then-i-eq30 c =
+    let passed : is_factor c.args.factor ≡ true =
+        let t = simp (to_z-of_z {w = w64} c.ranges.factor) at c.between.ensures in
+    sym t ∙ not-false _ c.if-not-between.false in
+    let e : above_least c.args.factor ≡ 30 = sym (place c) ∙ c.if-i-eq30.true in
+    accuracy_promised (ap (λ (n : ℕ). Given (get_or centimetres n 0)) (sym e) ∙ in_table c.args.factor passed)
+
+pub offset_bounds-i : goal.offset_bounds-i
+offset_bounds-i c =
+    let passed : is_factor c.args.factor ≡ true =
+        let t = simp (to_z-of_z {w = w64} c.ranges.factor) at c.between.ensures in
+    sym t ∙ not-false _ c.if-not-between.false in
+    let few : above_least c.args.factor < 31 = (sum_is c.args.factor passed).1 in
+    record { fits = omega (arith, place c, few) }
+
+pub TODO-array-read-t11 : goal.TODO-array-read-t11
+TODO-array-read-t11 c =
+    let passed : is_factor c.args.factor ≡ true =
+        let t = simp (to_z-of_z {w = w64} c.ranges.factor) at c.between.ensures in
+    sym t ∙ not-false _ c.if-not-between.false in
+    let few : above_least c.args.factor < 31 = (sum_is c.args.factor passed).1 in
+    let n = c.if-i-eq30.false in omega (arith, place c, few)
+
+pub returns : goal.returns
+returns c =
+    let passed : is_factor c.args.factor ≡ true =
+        let t = simp (to_z-of_z {w = w64} c.ranges.factor) at c.between.ensures in
+    sym t ∙ not-false _ c.if-not-between.false in
+    accuracy_promised (ap (λ (n : ℕ). Given (get_or centimetres n 0)) (place c) ∙ in_table c.args.factor passed)

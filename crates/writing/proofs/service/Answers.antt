@@ -1,0 +1,12 @@
+-- `writing::service`: the fields are in their ranges, so the number holds each one's bits. Assumes nothing.
+use native.Mathlib.Omega.{arith}
+use borrow.Author.Rules.{rules}
+use Rattle.format.proofs.Writing.{ranged}
+use Rattle.writing.proofs.Strings.{service-number}
+use Rattle.writing.proofs.service.Goals as goal
+
+pub overflow_add-result : goal.overflow_add-result
+overflow_add-result c = omega (arith, (ranged _ c.requires).time)
+
+pub returns : goal.returns
+returns c = service-number _ c.requires
