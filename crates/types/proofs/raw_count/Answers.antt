@@ -1,4 +1,5 @@
 -- `types::raw_count`: computed for each type that is named. Assumes nothing.
+use native.Mathlib.Omega.{arith}
 use mathlib.Core.Path.{refl}
 use borrow.Author.Tests.{ne_eqb}
 use Rattle.format.specs.Strings.{length_of, generator_of}
@@ -36,14 +37,13 @@ returns-in-25 c = rw c.in-25.is refl
 pub returns-in_default : goal.returns-in_default
 unfolding places_of raw_count length_of generator_of
 returns-in_default c =
-    let r = c.in-1.rest in
-    let other = r.0.0.0 in
+    let k = c.args.kind in
     simp (
-      ne_eqb _ _ other.0.0.0.1,
-      ne_eqb _ _ other.0.0.1,
-      ne_eqb _ _ other.0.1,
-      ne_eqb _ _ other.1,
-      ne_eqb _ _ r.0.0.1,
-      ne_eqb _ _ r.0.1,
-      ne_eqb _ _ r.1,
+      ne_eqb k 1 (λ e. omega arith),
+      ne_eqb k 2 (λ e. omega arith),
+      ne_eqb k 10 (λ e. omega arith),
+      ne_eqb k 11 (λ e. omega arith),
+      ne_eqb k 12 (λ e. omega arith),
+      ne_eqb k 20 (λ e. omega arith),
+      ne_eqb k 25 (λ e. omega arith),
     )

@@ -1,4 +1,5 @@
 -- `types::row_of`: each row of the table is computed from the type's fields. Assumes nothing.
+use native.Mathlib.Omega.{arith}
 use mathlib.Core.Path.{refl}
 use borrow.Author.Tests.{ne_eqb}
 use Rattle.format.specs.Types.{places_of}
@@ -27,6 +28,11 @@ returns-in-25 c = rw c.in-25.is (record { same = refl })
 pub returns-in_default : goal.returns-in_default
 unfolding places_of
 returns-in_default c =
-    let r = c.in-10.rest in
-    simp (ne_eqb _ _ r.0.0.0.0.1, ne_eqb _ _ r.0.0.0.1, ne_eqb _ _ r.0.0.1, ne_eqb _ _ r.0.1, ne_eqb _ _ r.1)
-    (record { same = refl })
+    let k = c.args.kind in
+    simp (
+      ne_eqb k 10 (λ e. omega arith),
+      ne_eqb k 11 (λ e. omega arith),
+      ne_eqb k 12 (λ e. omega arith),
+      ne_eqb k 20 (λ e. omega arith),
+      ne_eqb k 25 (λ e. omega arith),
+    ) (record { same = refl })

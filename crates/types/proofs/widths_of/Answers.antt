@@ -1,4 +1,5 @@
 -- `types::widths_of`: each line of the table is computed from the type's fields. Assumes nothing.
+use native.Mathlib.Omega.{arith}
 use mathlib.Core.Path.{refl}
 use borrow.Author.Rules.{rules}
 use borrow.Author.Tests.{ne_eqb}
@@ -28,6 +29,11 @@ returns-in-25 c = rw c.in-25.is refl
 pub returns-in_default : goal.returns-in_default
 unfolding places_of
 returns-in_default c =
-    let r = c.in-10.rest in
-    simp (ne_eqb _ _ r.0.0.0.0.1, ne_eqb _ _ r.0.0.0.1, ne_eqb _ _ r.0.0.1, ne_eqb _ _ r.0.1, ne_eqb _ _ r.1)
-    refl
+    let k = c.args.kind in
+    simp (
+      ne_eqb k 10 (λ e. omega arith),
+      ne_eqb k 11 (λ e. omega arith),
+      ne_eqb k 12 (λ e. omega arith),
+      ne_eqb k 20 (λ e. omega arith),
+      ne_eqb k 25 (λ e. omega arith),
+    )
