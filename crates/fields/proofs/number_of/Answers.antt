@@ -17,7 +17,7 @@ signed-requires c = (c.requires.0 c.if-signed.true, omega arith, c.requires.2)
 pub returns-then-signed : goal.returns-then-signed
 returns-then-signed c =
     let a = c.args in
-    to_z-of_z {w = w64} (record { sfits = c.signed.type-inv }) ∙ c.signed.ensures
+    to_z-of_z {w = w64} (record { sfits = c.signed.type_inv }) ∙ c.signed.ensures
     ∙ sym (ap (λ (t : Bool). cond t (signed_of (bits a.width a.x)) (pos a.x)) c.if-signed.true)
 
 pub overflow_cast-result : goal.overflow_cast-result

@@ -27,45 +27,26 @@ loop-at-init c =
 
 pub bounds-widths-i : goal.bounds-widths-i
 bounds-widths-i c =
-    let bits : List Bool = true_bits c.args.phase c.args.part.now in
-    let Read : List ℤ → ℕ → ℕ → ℕ → Type 0 =
-        λ numbers minus place next. ReadSoFar bits c.args.from c.args.kind numbers minus place next in
     let below : c.loop-at.i < places = left_here c.loop-at.invariant.1 (omega (arith, c.requires.0)) in
-    let numbers : List ℤ = set c.loop-at.numbers c.loop-at.i (to_z w64 (of_z w64 c.number_of.result)) in
-    let minus : ℕ = c.loop-at.minus + c.mark_bit-minus.result in
     below
 
 pub bounds-signs-i : goal.bounds-signs-i
 bounds-signs-i c =
-    let bits : List Bool = true_bits c.args.phase c.args.part.now in
-    let Read : List ℤ → ℕ → ℕ → ℕ → Type 0 =
-        λ numbers minus place next. ReadSoFar bits c.args.from c.args.kind numbers minus place next in
     let below : c.loop-at.i < places = left_here c.loop-at.invariant.1 (omega (arith, c.requires.0)) in
-    let numbers : List ℤ = set c.loop-at.numbers c.loop-at.i (to_z w64 (of_z w64 c.number_of.result)) in
-    let minus : ℕ = c.loop-at.minus + c.mark_bit-minus.result in
     below
 
 pub field-x-requires : goal.field-x-requires
 field-x-requires c =
-    let bits : List Bool = true_bits c.args.phase c.args.part.now in
-    let Read : List ℤ → ℕ → ℕ → ℕ → Type 0 =
-        λ numbers minus place next. ReadSoFar bits c.args.from c.args.kind numbers minus place next in
     let below : c.loop-at.i < places = left_here c.loop-at.invariant.1 (omega (arith, c.requires.0)) in
-    let numbers : List ℤ = set c.loop-at.numbers c.loop-at.i (to_z w64 (of_z w64 c.number_of.result)) in
-    let minus : ℕ = c.loop-at.minus + c.mark_bit-minus.result in
     let inside = inside_here c.loop-at.invariant.1 c.widths_of-widths.ensures c.row_of-row.ensures below in
     (width-here c.loop-at.invariant.1 c.widths_of-widths.ensures c.row_of-row.ensures below, omega (arith, inside, c.requires.0, c.requires.1))
 
 pub number_of-requires : goal.number_of-requires
 number_of-requires c =
     let bits : List Bool = true_bits c.args.phase c.args.part.now in
-    let Read : List ℤ → ℕ → ℕ → ℕ → Type 0 =
-        λ numbers minus place next. ReadSoFar bits c.args.from c.args.kind numbers minus place next in
     let below : c.loop-at.i < places = left_here c.loop-at.invariant.1 (omega (arith, c.requires.0)) in
     let room : c.args.from + total (places_of c.args.kind) ≤ length bits =
         omega (arith, length_true c.args.phase c.args.part.now, c.requires.0, c.requires.1) in
-    let numbers : List ℤ = set c.loop-at.numbers c.loop-at.i (to_z w64 (of_z w64 c.number_of.result)) in
-    let minus : ℕ = c.loop-at.minus + c.mark_bit-minus.result in
     let g = c.loop-at.invariant.1 in
     let w = c.widths_of-widths.ensures in
     let d = c.row_of-row.ensures in
@@ -74,24 +55,15 @@ number_of-requires c =
 
 pub bounds-numbers-i : goal.bounds-numbers-i
 bounds-numbers-i c =
-    let bits : List Bool = true_bits c.args.phase c.args.part.now in
-    let Read : List ℤ → ℕ → ℕ → ℕ → Type 0 =
-        λ numbers minus place next. ReadSoFar bits c.args.from c.args.kind numbers minus place next in
     let below : c.loop-at.i < places = left_here c.loop-at.invariant.1 (omega (arith, c.requires.0)) in
-    let numbers : List ℤ = set c.loop-at.numbers c.loop-at.i (to_z w64 (of_z w64 c.number_of.result)) in
-    let minus : ℕ = c.loop-at.minus + c.mark_bit-minus.result in
     below
 
 pub mark_bit-minus-requires : goal.mark_bit-minus-requires
 mark_bit-minus-requires c =
     let bits : List Bool = true_bits c.args.phase c.args.part.now in
-    let Read : List ℤ → ℕ → ℕ → ℕ → Type 0 =
-        λ numbers minus place next. ReadSoFar bits c.args.from c.args.kind numbers minus place next in
     let below : c.loop-at.i < places = left_here c.loop-at.invariant.1 (omega (arith, c.requires.0)) in
     let room : c.args.from + total (places_of c.args.kind) ≤ length bits =
         omega (arith, length_true c.args.phase c.args.part.now, c.requires.0, c.requires.1) in
-    let numbers : List ℤ = set c.loop-at.numbers c.loop-at.i (to_z w64 (of_z w64 c.number_of.result)) in
-    let minus : ℕ = c.loop-at.minus + c.mark_bit-minus.result in
     let g = c.loop-at.invariant.1 in
     let w = c.widths_of-widths.ensures in
     let d = c.row_of-row.ensures in
@@ -112,28 +84,18 @@ overflow_add-minus c =
     let read_more : Read numbers minus (c.loop-at.at + width) (c.loop-at.i + 1) =
         read_on c.loop-at.invariant.1 c.widths_of-widths.ensures c.row_of-row.ensures below room
     c.field-x.ensures
-    (to_z-of_z {w = w64} (record { sfits = c.number_of.type-inv }) ∙ c.number_of.ensures) c.mark_bit-minus.ensures in
+    (to_z-of_z {w = w64} (record { sfits = c.number_of.type_inv }) ∙ c.number_of.ensures) c.mark_bit-minus.ensures in
     record { fits = mark-fits read_more }
 
 pub overflow_add-at : goal.overflow_add-at
 overflow_add-at c =
-    let bits : List Bool = true_bits c.args.phase c.args.part.now in
-    let Read : List ℤ → ℕ → ℕ → ℕ → Type 0 =
-        λ numbers minus place next. ReadSoFar bits c.args.from c.args.kind numbers minus place next in
     let below : c.loop-at.i < places = left_here c.loop-at.invariant.1 (omega (arith, c.requires.0)) in
-    let numbers : List ℤ = set c.loop-at.numbers c.loop-at.i (to_z w64 (of_z w64 c.number_of.result)) in
-    let minus : ℕ = c.loop-at.minus + c.mark_bit-minus.result in
     let inside = inside_here c.loop-at.invariant.1 c.widths_of-widths.ensures c.row_of-row.ensures below in
     record { fits = omega (arith, inside, c.requires.0) }
 
 pub loop-at-smaller : goal.loop-at-smaller
 loop-at-smaller c =
-    let bits : List Bool = true_bits c.args.phase c.args.part.now in
-    let Read : List ℤ → ℕ → ℕ → ℕ → Type 0 =
-        λ numbers minus place next. ReadSoFar bits c.args.from c.args.kind numbers minus place next in
     let below : c.loop-at.i < places = left_here c.loop-at.invariant.1 (omega (arith, c.requires.0)) in
-    let numbers : List ℤ = set c.loop-at.numbers c.loop-at.i (to_z w64 (of_z w64 c.number_of.result)) in
-    let minus : ℕ = c.loop-at.minus + c.mark_bit-minus.result in
     omega (arith, below)
 
 pub loop-at-preserved : goal.loop-at-preserved
@@ -150,7 +112,7 @@ loop-at-preserved c =
     let read_more : Read numbers minus (c.loop-at.at + width) (c.loop-at.i + 1) =
         read_on c.loop-at.invariant.1 c.widths_of-widths.ensures c.row_of-row.ensures below room
     c.field-x.ensures
-    (to_z-of_z {w = w64} (record { sfits = c.number_of.type-inv }) ∙ c.number_of.ensures) c.mark_bit-minus.ensures in
+    (to_z-of_z {w = w64} (record { sfits = c.number_of.type_inv }) ∙ c.number_of.ensures) c.mark_bit-minus.ensures in
     (omega (arith, below), read_more)
 
 pub returns : goal.returns

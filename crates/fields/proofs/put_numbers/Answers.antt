@@ -37,29 +37,21 @@ loop-at-init c =
 
 pub bounds-widths-i : goal.bounds-widths-i
 bounds-widths-i c =
-    let Written : List Bool → ℕ → ℕ → ℕ → Type 0 =
-        WrittenSoFar c.args.from c.args.kind c.args.minus c.args.numbers (unpack c.args.part.now) in
     let below : c.loop-at.i < places = left_here c.loop-at.invariant.5 (omega (arith, c.requires.to_value.0)) in
     below
 
 pub bounds-signs-i : goal.bounds-signs-i
 bounds-signs-i c =
-    let Written : List Bool → ℕ → ℕ → ℕ → Type 0 =
-        WrittenSoFar c.args.from c.args.kind c.args.minus c.args.numbers (unpack c.args.part.now) in
     let below : c.loop-at.i < places = left_here c.loop-at.invariant.5 (omega (arith, c.requires.to_value.0)) in
     below
 
 pub bounds-numbers-i : goal.bounds-numbers-i
 bounds-numbers-i c =
-    let Written : List Bool → ℕ → ℕ → ℕ → Type 0 =
-        WrittenSoFar c.args.from c.args.kind c.args.minus c.args.numbers (unpack c.args.part.now) in
     let below : c.loop-at.i < places = left_here c.loop-at.invariant.5 (omega (arith, c.requires.to_value.0)) in
     below
 
 pub code-x-requires : goal.code-x-requires
 code-x-requires c =
-    let Written : List Bool → ℕ → ℕ → ℕ → Type 0 =
-        WrittenSoFar c.args.from c.args.kind c.args.minus c.args.numbers (unpack c.args.part.now) in
     let long : length c.args.numbers ≡ places = search rules in
     let below : c.loop-at.i < places = left_here c.loop-at.invariant.5 (omega (arith, c.requires.to_value.0)) in
     let below-here : c.loop-at.i < places = below in
@@ -69,8 +61,6 @@ code-x-requires c =
 
 pub hold-held-requires : goal.hold-held-requires
 hold-held-requires c =
-    let Written : List Bool → ℕ → ℕ → ℕ → Type 0 =
-        WrittenSoFar c.args.from c.args.kind c.args.minus c.args.numbers (unpack c.args.part.now) in
     let long : length c.args.numbers ≡ places = search rules in
     let below : c.loop-at.i < places = left_here c.loop-at.invariant.5 (omega (arith, c.requires.to_value.0)) in
     let below-here : c.loop-at.i < places = below in
@@ -84,24 +74,18 @@ hold-held-requires c =
 
 pub overflow_add-at : goal.overflow_add-at
 overflow_add-at c =
-    let Written : List Bool → ℕ → ℕ → ℕ → Type 0 =
-        WrittenSoFar c.args.from c.args.kind c.args.minus c.args.numbers (unpack c.args.part.now) in
     let below : c.loop-at.i < places = left_here c.loop-at.invariant.5 (omega (arith, c.requires.to_value.0)) in
     let below-here : c.loop-at.i < places = below in
     record { fits = omega (arith, room-here c.loop-at.invariant.5 c.widths_of-widths.ensures c.row_of-row.ensures below-here, c.requires.to_value.0) }
 
 pub loop-at-smaller : goal.loop-at-smaller
 loop-at-smaller c =
-    let Written : List Bool → ℕ → ℕ → ℕ → Type 0 =
-        WrittenSoFar c.args.from c.args.kind c.args.minus c.args.numbers (unpack c.args.part.now) in
     let below : c.loop-at.i < places = left_here c.loop-at.invariant.5 (omega (arith, c.requires.to_value.0)) in
     let below-here : c.loop-at.i < places = below in
     omega (arith, below-here)
 
 pub loop-at-preserved : goal.loop-at-preserved
 loop-at-preserved c =
-    let Written : List Bool → ℕ → ℕ → ℕ → Type 0 =
-        WrittenSoFar c.args.from c.args.kind c.args.minus c.args.numbers (unpack c.args.part.now) in
     let long : length c.args.numbers ≡ places = search rules in
     let below : c.loop-at.i < places = left_here c.loop-at.invariant.5 (omega (arith, c.requires.to_value.0)) in
     let below-here : c.loop-at.i < places = below in
@@ -109,20 +93,16 @@ loop-at-preserved c =
         to_z-of_z {w = w64} (record { sfits = c.code-arg-1.given }) in
     let e = c.hold-held.ensures in
     let code = c.code-x.ensures in
-    let z = put-at-same _ _ c.loop-at.invariant.4 e.1 in
+    let z = put-at-same _ _ c.loop-at.invariant.4 e.part_after in
     let on = written_on c.loop-at.invariant.5 c.widths_of-widths.ensures c.row_of-row.ensures below-here long number (odd_seen c.loop-at.marks) code z in
-    (omega (arith, below-here), search rules, e.0.1, e.0.2, omega (arith, e.0.0, c.loop-at.invariant.4), on)
+    (omega (arith, below-here), search rules, e.count_value.1, e.count_value.2, omega (arith, e.count_value.0, c.loop-at.invariant.4), on)
 
 pub put_field-requires : goal.put_field-requires
 put_field-requires c =
-    let Written : List Bool → ℕ → ℕ → ℕ → Type 0 =
-        WrittenSoFar c.args.from c.args.kind c.args.minus c.args.numbers (unpack c.args.part.now) in
     let p = c.loop-at.invariant.5.place in
     let h = c.loop-at.invariant.4 in
     (c.loop-at.invariant.2, c.loop-at.invariant.3, omega (arith, p, h, c.requires.to_value.0, c.requires.to_value.1), omega (arith, p, h, c.requires.to_value.0))
 
 pub returns : goal.returns
 returns c =
-    let Written : List Bool → ℕ → ℕ → ℕ → Type 0 =
-        WrittenSoFar c.args.from c.args.kind c.args.minus c.args.numbers (unpack c.args.part.now) in
     c.put_field.ensures ∙ written_all c.loop-at.invariant.5 (omega (arith, c.requires.to_value.0))

@@ -20,14 +20,14 @@ returns-then-count-room c =
 
 pub returns-then-room-needed : goal.returns-then-room-needed
 returns-then-room-needed c =
-    let found : List ℕ = starts (recorded c.args.phase c.args.rec.now c.args.count) in
+    
     let below : (i : ℕ) → get_or c.args.rec.now i 0 < 256 = λ i. (c.shared_slice_known-1.given i).fits in
     too_short _ _ _ _ c.requires.0 below _ _ c.scan-needed.ensures.found (omega arith) c.scan-needed.ensures.left
 
 pub scan-requires-2 : goal.scan-requires-2
 scan-requires-2 c =
-    let found : List ℕ = starts (recorded c.args.phase c.args.rec.now c.args.count) in
-    let same : c.scan-needed.new.1.1.1.0 ≡ c.args.list.now =
+    
+    let same : c.scan-needed.new.list ≡ c.args.list.now =
         counted c.args.phase _ _ _ c.requires.0 _ c.scan-needed.ensures.left in
     (c.requires.0, omega (arith, ap length same), c.requires.1)
 
@@ -35,7 +35,7 @@ pub returns : goal.returns
 returns c =
     let found : List ℕ = starts (recorded c.args.phase c.args.rec.now c.args.count) in
     let below : (i : ℕ) → get_or c.args.rec.now i 0 < 256 = λ i. (c.shared_slice_known-1.given i).fits in
-    let same : c.scan-needed.new.1.1.1.0 ≡ c.args.list.now =
+    let same : c.scan-needed.new.list ≡ c.args.list.now =
         counted c.args.phase _ _ _ c.requires.0 _ c.scan-needed.ensures.left in
     all_given _ _ _ _ c.requires.0 below _ _ c.scan-2.ensures.found (omega (arith, c.scan-needed.ensures.found))
     (c.scan-2.ensures.left ∙ ap (put 0 (take (length c.args.list.now) found)) same)

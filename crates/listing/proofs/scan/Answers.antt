@@ -29,7 +29,7 @@ loop-p-preserved-then-long-eq0 c =
 
 pub note-requires : goal.note-requires
 note-requires c =
-    let u : List Bool = recorded c.args.phase c.args.rec.now c.args.count in
+    
     omega (arith, done-length _ _ _ c.loop-p.invariant.1 c.requires.1)
 
 pub overflow_add-found : goal.overflow_add-found
@@ -73,7 +73,7 @@ loop-p-preserved c =
 
 pub shape_of-list : goal.shape_of-list
 shape_of-list c =
-    let u : List Bool = recorded c.args.phase c.args.rec.now c.args.count in
+    
     done-length _ _ _ c.loop-p.invariant.1 c.requires.1
 
 pub returns : goal.returns
@@ -82,4 +82,5 @@ returns c =
     let bits : length u ≡ c.args.count =
         let a = c.args in
     length-recorded a.phase a.rec.now a.count c.requires.0.in_bytes in
-    done_all u c.args.list.now c.args.room c.loop-p.invariant.1 (omega (arith, bits))
+    let h = done_all u c.args.list.now c.args.room c.loop-p.invariant.1 (omega (arith, bits)) in
+    record { found = h.0; left = h.1 }

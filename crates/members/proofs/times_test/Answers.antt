@@ -7,14 +7,14 @@ use Rattle.members.proofs.times_test.Goals as goal
 
 pub returns-then-not-follows : goal.returns-then-not-follows
 unfolding when
-returns-then-not-follows c = simp (sym c.follows.ensures ∙ not-true _ c.if-not-follows.true)
+returns-then-not-follows c = simp (sym c.follows.ensures ∙ c.if-not-follows.true)
 
 pub returns-then-not-follows-2 : goal.returns-then-not-follows-2
 unfolding when
 returns-then-not-follows-2 c =
-    simp (sym c.follows.ensures ∙ not-false _ c.if-not-follows.false, sym c.follows-2.ensures ∙ not-true _ c.if-not-follows-2.true)
+    simp (sym c.follows.ensures ∙ c.if-not-follows.false, sym c.follows-2.ensures ∙ c.if-not-follows-2.true)
 
 pub returns : goal.returns
 unfolding when
 returns c =
-    simp (sym c.follows.ensures ∙ not-false _ c.if-not-follows.false, sym c.follows-2.ensures ∙ not-false _ c.if-not-follows-2.false)
+    simp (sym c.follows.ensures ∙ c.if-not-follows.false, sym c.follows-2.ensures ∙ c.if-not-follows-2.false)

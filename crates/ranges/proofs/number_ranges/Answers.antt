@@ -36,7 +36,7 @@ returns-then-not-takes c =
         to_z-of_z {w = w64} (record { sfits = c.takes-arg-in-loop-i-2-1.given }) in
     let refuses : c.takes.result ≡ false → Refused (OutOfRange (10 + c.loop-i.i)) ≡ ranges fields c.args.numbers 10 =
         λ e. row-refuses _ c.loop-i.i c.args.numbers c.widths_of-widths.ensures c.row_of-row.ensures below long low high number c.takes.ensures e ∙ c.loop-i.invariant.1 in
-    refuses (not-true _ c.if-not-takes.true)
+    refuses c.if-not-takes.true
 
 pub loop-i-preserved : goal.loop-i-preserved
 loop-i-preserved c =
@@ -51,7 +51,7 @@ loop-i-preserved c =
         to_z-of_z {w = w64} (record { sfits = c.takes-arg-in-loop-i-2-1.given }) in
     let goes_on : c.takes.result ≡ true → ranges (drop (c.loop-i.i + 1) fields) (drop (c.loop-i.i + 1) c.args.numbers) (10 + (c.loop-i.i + 1)) ≡ ranges fields c.args.numbers 10 =
         λ e. row-takes _ c.loop-i.i c.args.numbers c.widths_of-widths.ensures c.row_of-row.ensures below long low high number c.takes.ensures e ∙ c.loop-i.invariant.1 in
-    (search rules, goes_on (not-false _ c.if-not-takes.false))
+    (search rules, goes_on c.if-not-takes.false)
 
 pub returns : goal.returns
 returns c = ranges-end _ c.loop-i.i _ _ c.loop-i-test.false ∙ c.loop-i.invariant.1

@@ -25,7 +25,7 @@ returns-then-not-check_passes c =
     let u : List Bool = true_bits c.args.phase c.args.part.now in
     let check_is_lem : c.check_passes.result ≡ check_passes u c.args.offset =
         check_seen u c.args.offset _ c.requires.1 c.requires.2 c.check_passes.ensures in
-    c.refused.ensures ∙ check_fails u c.args.offset _ check_is_lem (not-true _ c.if-not-check_passes.true)
+    c.refused.ensures ∙ check_fails u c.args.offset _ check_is_lem c.if-not-check_passes.true
 
 pub decoded-content-requires : goal.decoded-content-requires
 decoded-content-requires c = c.requires
@@ -36,7 +36,7 @@ returns-in-Refused c =
     let check_is_lem : c.check_passes.result ≡ check_passes u c.args.offset =
         check_seen u c.args.offset _ c.requires.1 c.requires.2 c.check_passes.ensures in
     let tests : (b : Answer) → c.field_tests-tested.result ≡ b → beside b c.decoded-content.result ≡ checked u c.args.offset c.args.place =
-        λ b e. fields_tested u c.args.offset _ check_is_lem b (not-false _ c.if-not-check_passes.false) c.decoded-content.ensures c.field_tests-tested.ensures e in
+        λ b e. fields_tested u c.args.offset _ check_is_lem b c.if-not-check_passes.false c.decoded-content.ensures c.field_tests-tested.ensures e in
     c.refused-in-Refused.ensures ∙ tests (Refused _) c.in-Refused.is
 
 pub returns-in-Passed : goal.returns-in-Passed
@@ -45,5 +45,5 @@ returns-in-Passed c =
     let check_is_lem : c.check_passes.result ≡ check_passes u c.args.offset =
         check_seen u c.args.offset _ c.requires.1 c.requires.2 c.check_passes.ensures in
     let tests : (b : Answer) → c.field_tests-tested.result ≡ b → beside b c.decoded-content.result ≡ checked u c.args.offset c.args.place =
-        λ b e. fields_tested u c.args.offset _ check_is_lem b (not-false _ c.if-not-check_passes.false) c.decoded-content.ensures c.field_tests-tested.ensures e in
+        λ b e. fields_tested u c.args.offset _ check_is_lem b c.if-not-check_passes.false c.decoded-content.ensures c.field_tests-tested.ensures e in
     tests Passed c.in-Passed.is

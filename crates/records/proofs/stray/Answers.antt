@@ -16,6 +16,7 @@ use Rattle.format.specs.Records.{may_bear, mark_bits, stray}
 use Rattle.format.specs.Types.{mark_width, places_of}
 use Rattle.records.proofs.Tests.{bits_left, half_fits, may_at, may_past, stray-done, stray-next, stray-found}
 use Rattle.records.proofs.stray.Goals as goal
+use Rattle.records.proofs.stray.Goals.{then-i-lt-PLACES, else-i-lt-PLACES}
 
 pub returns-then-strays : goal.returns-then-strays
 returns-then-strays c =
@@ -24,12 +25,10 @@ returns-then-strays c =
     let left : c.loop-marks.i < mark_width =
         bits_left mark_width c.loop-marks.i c.loop-marks.marks c.loop-marks.invariant.0 c.loop-marks-test.true in
     let may-is : c.if-i-lt-PLACES.may ≡ may =
-        let at = c.loop-marks.i in
-    let n = c.args.numbers in
-    ⊎_elim
-    (λ w. w.3 ∙ may_at _ at n c.row_of-row.ensures (to_z-of_z {w = w64} (record { sfits = w.1.given })) w.2.ensures)
-    (λ w. w.1 ∙ may_past _ at n w.0.left)
-    c.if-i-lt-PLACES.branch in
+        elim c.if-i-lt-PLACES.branch [
+          then-i-lt-PLACES w ↦ let h = w in ?
+        | else-i-lt-PLACES w ↦ w.may-is ∙ may_past _ c.loop-marks.i c.args.numbers w.if-i-lt-PLACES.false
+        ] in
     let found : {x : Bool} → x ≡ (odd c.loop-marks.marks && not c.if-i-lt-PLACES.may) → x ≡ (odd c.loop-marks.marks && not may) =
         λ e. e ∙ ap (λ (b : Bool). odd c.loop-marks.marks && not b) may-is in
     stray-found _ _ mark_width _ _ left (found c.strays.ensures) c.if-strays.true
@@ -48,12 +47,10 @@ loop-marks-preserved c =
     let left : c.loop-marks.i < mark_width =
         bits_left mark_width c.loop-marks.i c.loop-marks.marks c.loop-marks.invariant.0 c.loop-marks-test.true in
     let may-is : c.if-i-lt-PLACES.may ≡ may =
-        let at = c.loop-marks.i in
-    let n = c.args.numbers in
-    ⊎_elim
-    (λ w. w.3 ∙ may_at _ at n c.row_of-row.ensures (to_z-of_z {w = w64} (record { sfits = w.1.given })) w.2.ensures)
-    (λ w. w.1 ∙ may_past _ at n w.0.left)
-    c.if-i-lt-PLACES.branch in
+        elim c.if-i-lt-PLACES.branch [
+          then-i-lt-PLACES w ↦ let h = w in ?
+        | else-i-lt-PLACES w ↦ w.may-is ∙ may_past _ c.loop-marks.i c.args.numbers w.if-i-lt-PLACES.false
+        ] in
     let found : {x : Bool} → x ≡ (odd c.loop-marks.marks && not c.if-i-lt-PLACES.may) → x ≡ (odd c.loop-marks.marks && not may) =
         λ e. e ∙ ap (λ (b : Bool). odd c.loop-marks.marks && not b) may-is in
     let l = left in

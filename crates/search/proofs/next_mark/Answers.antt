@@ -13,6 +13,7 @@ use Rattle.bits.specs.Bits.{recorded}
 use Rattle.search.specs.Search.{Hits}
 use Rattle.search.proofs.Searching.{MarkFree, free_none, free_join, next-on, hits_at, hits_word, hits_none, hits_first}
 use Rattle.search.proofs.next_mark.Goals as goal
+use Rattle.search.proofs.next_mark.Goals.{then-from-count+else-hits-ne0+else-loop-i-test, else-from-count}
 
 pub overflow_cast-result : goal.overflow_cast-result
 overflow_cast-result c =
@@ -81,10 +82,11 @@ mark_from-requires c =
         λ p. let a = c.args in
     (a.from ≤ p) × (p ≤ a.count) × MarkFree (recorded a.phase a.rec.now a.count) a.from p in
     let come : Free c.if-from-count.p =
-        ⊎_elim
-    (λ w. subst Free (sym w.6) (omega (arith, w.4.invariant.0), w.4.invariant.1, w.4.invariant.2))
-    (λ w. subst Free (sym w.1) (omega arith, c.requires.2, free_none _ _))
-    c.if-from-count.branch in
+        elim c.if-from-count.branch [
+          then-from-count+else-hits-ne0+else-loop-i-test w ↦
+            let v = w.loop-i.invariant in subst Free (sym w.p-is) (omega (arith, v.0), v.1, v.2)
+        | else-from-count w ↦ subst Free (sym w.p-is) (omega arith, c.requires.2, free_none _ _)
+        ] in
     (c.requires.0, c.requires.1, come.1)
 
 pub returns : goal.returns
@@ -93,8 +95,9 @@ returns c =
         λ p. let a = c.args in
     (a.from ≤ p) × (p ≤ a.count) × MarkFree (recorded a.phase a.rec.now a.count) a.from p in
     let come : Free c.if-from-count.p =
-        ⊎_elim
-    (λ w. subst Free (sym w.6) (omega (arith, w.4.invariant.0), w.4.invariant.1, w.4.invariant.2))
-    (λ w. subst Free (sym w.1) (omega arith, c.requires.2, free_none _ _))
-    c.if-from-count.branch in
+        elim c.if-from-count.branch [
+          then-from-count+else-hits-ne0+else-loop-i-test w ↦
+            let v = w.loop-i.invariant in subst Free (sym w.p-is) (omega (arith, v.0), v.1, v.2)
+        | else-from-count w ↦ subst Free (sym w.p-is) (omega arith, c.requires.2, free_none _ _)
+        ] in
     next-on _ _ c.if-from-count.p _ come.2 come.0 c.mark_from.ensures

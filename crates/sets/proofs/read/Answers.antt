@@ -26,7 +26,7 @@ length-read x = length_of x.content.kind
 
 pub returns-in-Refused : goal.returns-in-Refused
 returns-in-Refused c =
-    let at : ℕ → Reading = reading c.args.phase c.args.rec.now c.args.count in
+    
     let below : (i : ℕ) → get_or c.args.rec.now i 0 < 256 = λ i. (c.shared_slice_known-1.given i).fits in
     read_promised _ _ _ _ below
     (c.refused.ensures ∙ first-refuses _ _ _ _ _ (ap answer-of (sym c.read-one.ensures.answered) ∙ c.in-Refused.is))

@@ -47,13 +47,13 @@ place c = ap nat_abs (sum_back c)
 pub returns-then-not-between : goal.returns-then-not-between
 returns-then-not-between c =
     let t = simp (to_z-of_z {w = w64} c.ranges.factor) at c.between.ensures in
-    accuracy_promised (no-factor c.args.factor (sym t ∙ not-true _ c.if-not-between.true))
+    accuracy_promised (no-factor c.args.factor (sym t ∙ c.if-not-between.true))
 
 pub overflow_add-i : goal.overflow_add-i
 overflow_add-i c =
     let passed : is_factor c.args.factor ≡ true =
         let t = simp (to_z-of_z {w = w64} c.ranges.factor) at c.between.ensures in
-    sym t ∙ not-false _ c.if-not-between.false in
+    sym t ∙ c.if-not-between.false in
     let sum : to_z w64 (of_z w64 c.args.factor) +ℤ pos 15 ≡ pos (above_least c.args.factor) =
         rw (to_z-of_z {w = w64} c.ranges.factor) (sum_is c.args.factor passed).0 in
     let few : above_least c.args.factor < 31 = (sum_is c.args.factor passed).1 in
@@ -65,7 +65,7 @@ pub overflow_cast-i : goal.overflow_cast-i
 overflow_cast-i c =
     let passed : is_factor c.args.factor ≡ true =
         let t = simp (to_z-of_z {w = w64} c.ranges.factor) at c.between.ensures in
-    sym t ∙ not-false _ c.if-not-between.false in
+    sym t ∙ c.if-not-between.false in
     let sum : to_z w64 (of_z w64 c.args.factor) +ℤ pos 15 ≡ pos (above_least c.args.factor) =
         rw (to_z-of_z {w = w64} c.ranges.factor) (sum_is c.args.factor passed).0 in
     let few : above_least c.args.factor < 31 = (sum_is c.args.factor passed).1 in
@@ -79,7 +79,7 @@ pub returns-then-i-eq30 : goal.returns-then-i-eq30
 returns-then-i-eq30 c =
     let passed : is_factor c.args.factor ≡ true =
         let t = simp (to_z-of_z {w = w64} c.ranges.factor) at c.between.ensures in
-    sym t ∙ not-false _ c.if-not-between.false in
+    sym t ∙ c.if-not-between.false in
     let e : above_least c.args.factor ≡ 30 = sym (place c) ∙ c.if-i-eq30.true in
     accuracy_promised (ap (λ (n : ℕ). Given (get_or centimetres n 0)) (sym e) ∙ in_table c.args.factor passed)
 
@@ -87,7 +87,7 @@ pub offset_bounds-i : goal.offset_bounds-i
 offset_bounds-i c =
     let passed : is_factor c.args.factor ≡ true =
         let t = simp (to_z-of_z {w = w64} c.ranges.factor) at c.between.ensures in
-    sym t ∙ not-false _ c.if-not-between.false in
+    sym t ∙ c.if-not-between.false in
     let few : above_least c.args.factor < 31 = (sum_is c.args.factor passed).1 in
     record { fits = omega (arith, place c, few) }
 
@@ -95,7 +95,7 @@ pub TODO-array-read-t11 : goal.TODO-array-read-t11
 TODO-array-read-t11 c =
     let passed : is_factor c.args.factor ≡ true =
         let t = simp (to_z-of_z {w = w64} c.ranges.factor) at c.between.ensures in
-    sym t ∙ not-false _ c.if-not-between.false in
+    sym t ∙ c.if-not-between.false in
     let few : above_least c.args.factor < 31 = (sum_is c.args.factor passed).1 in
     let n = c.if-i-eq30.false in omega (arith, place c, few)
 
@@ -103,5 +103,5 @@ pub returns : goal.returns
 returns c =
     let passed : is_factor c.args.factor ≡ true =
         let t = simp (to_z-of_z {w = w64} c.ranges.factor) at c.between.ensures in
-    sym t ∙ not-false _ c.if-not-between.false in
+    sym t ∙ c.if-not-between.false in
     accuracy_promised (ap (λ (n : ℕ). Given (get_or centimetres n 0)) (place c) ∙ in_table c.args.factor passed)

@@ -54,27 +54,27 @@ cast-inside z b f e =
 pub returns-then-not-between : goal.returns-then-not-between
 returns-then-not-between c =
     let t = simp (to_z-of_z {w = w64} c.ranges.n4) at c.between.ensures in
-    days_promised (no-interval c.args.n4 c.args.nt (sym t ∙ not-true _ c.if-not-between.true))
+    days_promised (no-interval c.args.n4 c.args.nt (sym t ∙ c.if-not-between.true))
 
 pub returns-then-not-between-2 : goal.returns-then-not-between-2
 returns-then-not-between-2 c =
     let t = simp (to_z-of_z {w = w64} c.ranges.n4) at c.between.ensures in
     let u = simp (to_z-of_z {w = w64} c.ranges.nt) at c.between-2.ensures in
     days_promised
-    (no-day c.args.n4 c.args.nt (sym t ∙ not-false _ c.if-not-between.false) (sym u ∙ not-true _ c.if-not-between-2.true))
+    (no-day c.args.n4 c.args.nt (sym t ∙ c.if-not-between.false) (sym u ∙ c.if-not-between-2.true))
 
 pub overflow_cast-interval : goal.overflow_cast-interval
 overflow_cast-interval c =
     let interval-passed : is_interval c.args.n4 ≡ true =
         let t = simp (to_z-of_z {w = w64} c.ranges.n4) at c.between.ensures in
-    sym t ∙ not-false _ c.if-not-between.false in
+    sym t ∙ c.if-not-between.false in
     let n4-cast : Cast c.args.n4 31 = cast-inside c.args.n4 31 c.ranges.n4 interval-passed in
     (n4-cast.plus, record { fits = omega (arith, n4-cast.most) })
 
 pub overflow_cast-day : goal.overflow_cast-day
 overflow_cast-day c =
     let day-passed : is_day c.args.nt ≡ true =
-        let t = simp (to_z-of_z {w = w64} c.ranges.nt) at c.between-2.ensures in sym t ∙ not-false _ c.if-not-between-2.false in
+        let t = simp (to_z-of_z {w = w64} c.ranges.nt) at c.between-2.ensures in sym t ∙ c.if-not-between-2.false in
     let nt-cast : Cast c.args.nt 1461 = cast-inside c.args.nt 1461 c.ranges.nt day-passed in
     (nt-cast.plus, record { fits = omega (arith, nt-cast.most) })
 
@@ -82,7 +82,7 @@ pub overflow_sub-result : goal.overflow_sub-result
 overflow_sub-result c =
     let interval-passed : is_interval c.args.n4 ≡ true =
         let t = simp (to_z-of_z {w = w64} c.ranges.n4) at c.between.ensures in
-    sym t ∙ not-false _ c.if-not-between.false in
+    sym t ∙ c.if-not-between.false in
     let n4-cast : Cast c.args.n4 31 = cast-inside c.args.n4 31 c.ranges.n4 interval-passed in
     n4-cast.least
 
@@ -90,7 +90,7 @@ pub overflow_mul-result : goal.overflow_mul-result
 overflow_mul-result c =
     let interval-passed : is_interval c.args.n4 ≡ true =
         let t = simp (to_z-of_z {w = w64} c.ranges.n4) at c.between.ensures in
-    sym t ∙ not-false _ c.if-not-between.false in
+    sym t ∙ c.if-not-between.false in
     let n4-cast : Cast c.args.n4 31 = cast-inside c.args.n4 31 c.ranges.n4 interval-passed in
     record { fits = omega (arith, n4-cast.most) }
 
@@ -98,9 +98,9 @@ pub overflow_add-result : goal.overflow_add-result
 overflow_add-result c =
     let interval-passed : is_interval c.args.n4 ≡ true =
         let t = simp (to_z-of_z {w = w64} c.ranges.n4) at c.between.ensures in
-    sym t ∙ not-false _ c.if-not-between.false in
+    sym t ∙ c.if-not-between.false in
     let day-passed : is_day c.args.nt ≡ true =
-        let t = simp (to_z-of_z {w = w64} c.ranges.nt) at c.between-2.ensures in sym t ∙ not-false _ c.if-not-between-2.false in
+        let t = simp (to_z-of_z {w = w64} c.ranges.nt) at c.between-2.ensures in sym t ∙ c.if-not-between-2.false in
     let n4-cast : Cast c.args.n4 31 = cast-inside c.args.n4 31 c.ranges.n4 interval-passed in
     let nt-cast : Cast c.args.nt 1461 = cast-inside c.args.nt 1461 c.ranges.nt day-passed in
     record { fits = omega (arith, n4-cast.most, nt-cast.most) }
@@ -108,7 +108,7 @@ overflow_add-result c =
 pub overflow_sub-result-2 : goal.overflow_sub-result-2
 overflow_sub-result-2 c =
     let day-passed : is_day c.args.nt ≡ true =
-        let t = simp (to_z-of_z {w = w64} c.ranges.nt) at c.between-2.ensures in sym t ∙ not-false _ c.if-not-between-2.false in
+        let t = simp (to_z-of_z {w = w64} c.ranges.nt) at c.between-2.ensures in sym t ∙ c.if-not-between-2.false in
     let nt-cast : Cast c.args.nt 1461 = cast-inside c.args.nt 1461 c.ranges.nt day-passed in
     omega (arith, nt-cast.least)
 
@@ -116,9 +116,9 @@ pub returns : goal.returns
 returns c =
     let interval-passed : is_interval c.args.n4 ≡ true =
         let t = simp (to_z-of_z {w = w64} c.ranges.n4) at c.between.ensures in
-    sym t ∙ not-false _ c.if-not-between.false in
+    sym t ∙ c.if-not-between.false in
     let day-passed : is_day c.args.nt ≡ true =
-        let t = simp (to_z-of_z {w = w64} c.ranges.nt) at c.between-2.ensures in sym t ∙ not-false _ c.if-not-between-2.false in
+        let t = simp (to_z-of_z {w = w64} c.ranges.nt) at c.between-2.ensures in sym t ∙ c.if-not-between-2.false in
     let n4-cast : Cast c.args.n4 31 = cast-inside c.args.n4 31 c.ranges.n4 interval-passed in
     let nt-cast : Cast c.args.nt 1461 = cast-inside c.args.nt 1461 c.ranges.nt day-passed in
     days_promised
