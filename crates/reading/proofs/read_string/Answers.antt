@@ -70,25 +70,13 @@ checked-requires c =
     )
 
 pub returns-in-Short : goal.returns-in-Short
-returns-in-Short c =
-    let all : List Bool = recorded c.args.phase c.args.rec.now c.args.count in
-    let ends_with : (g : Frame) (x : Refusal) {r : Reading} → r ≡ refused x → frame_tests g c.args.place (check_passes all c.args.place) ≡ Refused x → c.frame_at-frame.result ≡ g → r ≡ string_read all c.args.place =
-        λ g x er h k. er ∙ frame_refuses _ _ c.frame_at-frame.ensures g x h k in
-    ends_with Short (RunsOut _) c.refused.ensures refl c.in-Short.is
+returns-in-Short c = c.refused.ensures ∙ frame_refuses _ _ c.frame_at-frame.ensures Short (RunsOut _) refl c.in-Short.is
 
 pub returns-in-Unmarked : goal.returns-in-Unmarked
-returns-in-Unmarked c =
-    let all : List Bool = recorded c.args.phase c.args.rec.now c.args.count in
-    let ends_with : (g : Frame) (x : Refusal) {r : Reading} → r ≡ refused x → frame_tests g c.args.place (check_passes all c.args.place) ≡ Refused x → c.frame_at-frame.result ≡ g → r ≡ string_read all c.args.place =
-        λ g x er h k. er ∙ frame_refuses _ _ c.frame_at-frame.ensures g x h k in
-    ends_with Unmarked (NoMark _) c.refused-in-Unmarked.ensures refl c.in-Unmarked.is
+returns-in-Unmarked c = c.refused-in-Unmarked.ensures ∙ frame_refuses _ _ c.frame_at-frame.ensures Unmarked (NoMark _) refl c.in-Unmarked.is
 
 pub returns-in-Beyond : goal.returns-in-Beyond
-returns-in-Beyond c =
-    let all : List Bool = recorded c.args.phase c.args.rec.now c.args.count in
-    let ends_with : (g : Frame) (x : Refusal) {r : Reading} → r ≡ refused x → frame_tests g c.args.place (check_passes all c.args.place) ≡ Refused x → c.frame_at-frame.result ≡ g → r ≡ string_read all c.args.place =
-        λ g x er h k. er ∙ frame_refuses _ _ c.frame_at-frame.ensures g x h k in
-    ends_with Beyond (RunsOut _) c.refused-in-Beyond.ensures refl c.in-Beyond.is
+returns-in-Beyond c = c.refused-in-Beyond.ensures ∙ frame_refuses _ _ c.frame_at-frame.ensures Beyond (RunsOut _) refl c.in-Beyond.is
 
 pub returns-in-Framed : goal.returns-in-Framed
 returns-in-Framed c =

@@ -26,12 +26,12 @@ returns-then-strays c =
         bits_left mark_width c.loop-marks.i c.loop-marks.marks c.loop-marks.invariant.0 c.loop-marks-test.true in
     let may-is : c.if-i-lt-PLACES.may ≡ may =
         elim c.if-i-lt-PLACES.branch [
-          then-i-lt-PLACES w ↦ let h = w in ?
+          then-i-lt-PLACES w ↦
+            w.may-is ∙ may_at _ c.loop-marks.i c.args.numbers c.row_of-row.ensures (to_z-of_z {w = w64} (record { sfits = w.bears-arg-1.given })) w.bears-may.ensures
         | else-i-lt-PLACES w ↦ w.may-is ∙ may_past _ c.loop-marks.i c.args.numbers w.if-i-lt-PLACES.false
         ] in
-    let found : {x : Bool} → x ≡ (odd c.loop-marks.marks && not c.if-i-lt-PLACES.may) → x ≡ (odd c.loop-marks.marks && not may) =
-        λ e. e ∙ ap (λ (b : Bool). odd c.loop-marks.marks && not b) may-is in
-    stray-found _ _ mark_width _ _ left (found c.strays.ensures) c.if-strays.true
+    let found = c.strays.ensures ∙ ap (λ (b : Bool). odd c.loop-marks.marks && not b) may-is in
+    stray-found _ _ mark_width _ _ left found c.if-strays.true
     ∙ c.loop-marks.invariant.1
 
 pub overflow_add-i : goal.overflow_add-i
@@ -48,14 +48,14 @@ loop-marks-preserved c =
         bits_left mark_width c.loop-marks.i c.loop-marks.marks c.loop-marks.invariant.0 c.loop-marks-test.true in
     let may-is : c.if-i-lt-PLACES.may ≡ may =
         elim c.if-i-lt-PLACES.branch [
-          then-i-lt-PLACES w ↦ let h = w in ?
+          then-i-lt-PLACES w ↦
+            w.may-is ∙ may_at _ c.loop-marks.i c.args.numbers c.row_of-row.ensures (to_z-of_z {w = w64} (record { sfits = w.bears-arg-1.given })) w.bears-may.ensures
         | else-i-lt-PLACES w ↦ w.may-is ∙ may_past _ c.loop-marks.i c.args.numbers w.if-i-lt-PLACES.false
         ] in
-    let found : {x : Bool} → x ≡ (odd c.loop-marks.marks && not c.if-i-lt-PLACES.may) → x ≡ (odd c.loop-marks.marks && not may) =
-        λ e. e ∙ ap (λ (b : Bool). odd c.loop-marks.marks && not b) may-is in
+    let found = c.strays.ensures ∙ ap (λ (b : Bool). odd c.loop-marks.marks && not b) may-is in
     let l = left in
     let inv = c.loop-marks.invariant in
-    (half_fits mark_width _ _ l inv.0, stray-next _ _ mark_width _ _ l (found c.strays.ensures) c.if-strays.false ∙ inv.1)
+    (half_fits mark_width _ _ l inv.0, stray-next _ _ mark_width _ _ l found c.if-strays.false ∙ inv.1)
 
 pub returns : goal.returns
 returns c = sym (stray-done _ _ _ _ _ c.loop-marks-test.false) ∙ c.loop-marks.invariant.1
