@@ -40,9 +40,20 @@ sum_is (negsuc m) e =
     let d : sub_ℕ 15 (suc m) ≡ pos (15 - suc m) = ap (λ (b : Bool). cond b (negsuc (suc m - 16)) (pos (15 - suc m))) t in
     (d ∙ ap (λ (z : ℤ). pos (nat_abs z)) (sym d), rw d (omega arith))
 
-place : (c : tie.Else1)
-    → nat_abs (to_z w64 (of_z w64 (to_z w64 (of_z w64 (factor c)) +ℤ pos 15))) ≡ above_least (factor c)
-place c = ap nat_abs (sum_back c)
+-- a factor that the test lets pass, and its sum with 15 as the machine reads it back
+record Passes (f : ℤ) : Type 0 where
+  among : is_factor f ≡ true
+  few : above_least f < 31
+  fits : SFits w64 (to_z w64 (of_z w64 f) +ℤ pos 15)
+  back : to_z w64 (of_z w64 (to_z w64 (of_z w64 f) +ℤ pos 15)) ≡ pos (above_least f)
+
+passes : (f : ℤ) (b : Bool) → SFits w64 f → b ≡ is_factor (to_z w64 (of_z w64 f)) → b ≡ true → Passes f
+passes f b s e h =
+    let among : is_factor f ≡ true = sym (simp (to_z-of_z {w = w64} s) at e) ∙ h in
+    let sum : to_z w64 (of_z w64 f) +ℤ pos 15 ≡ pos (above_least f) = rw (to_z-of_z {w = w64} s) (sum_is f among).0 in
+    let few : above_least f < 31 = (sum_is f among).1 in
+    let fits : SFits w64 (to_z w64 (of_z w64 f) +ℤ pos 15) = rw sum (record { sfits = lt_of_lt_of_le few (lit≤ tt) }) in
+    record { among = among; few = few; fits = fits; back = to_z-of_z {w = w64} fits ∙ sum }
 
 pub returns-then-not-between : goal.returns-then-not-between
 returns-then-not-between c =
@@ -50,58 +61,30 @@ returns-then-not-between c =
     accuracy_promised (no-factor c.args.factor (sym t ∙ c.if-not-between.true))
 
 pub overflow_add-i : goal.overflow_add-i
-overflow_add-i c =
-    let passed : is_factor c.args.factor ≡ true =
-        let t = simp (to_z-of_z {w = w64} c.ranges.factor) at c.between.ensures in
-    sym t ∙ c.if-not-between.false in
-    let sum : to_z w64 (of_z w64 c.args.factor) +ℤ pos 15 ≡ pos (above_least c.args.factor) =
-        rw (to_z-of_z {w = w64} c.ranges.factor) (sum_is c.args.factor passed).0 in
-    let few : above_least c.args.factor < 31 = (sum_is c.args.factor passed).1 in
-    let sum_fits : SFits w64 (to_z w64 (of_z w64 c.args.factor) +ℤ pos 15) =
-        rw sum (record { sfits = lt_of_lt_of_le few (lit≤ tt) }) in
-    sum_fits
+overflow_add-i c = (passes c.args.factor _ c.ranges.factor c.between.ensures c.if-not-between.false).fits
 
 pub overflow_cast-i : goal.overflow_cast-i
 overflow_cast-i c =
-    let passed : is_factor c.args.factor ≡ true =
-        let t = simp (to_z-of_z {w = w64} c.ranges.factor) at c.between.ensures in
-    sym t ∙ c.if-not-between.false in
-    let sum : to_z w64 (of_z w64 c.args.factor) +ℤ pos 15 ≡ pos (above_least c.args.factor) =
-        rw (to_z-of_z {w = w64} c.ranges.factor) (sum_is c.args.factor passed).0 in
-    let few : above_least c.args.factor < 31 = (sum_is c.args.factor passed).1 in
-    let sum_fits : SFits w64 (to_z w64 (of_z w64 c.args.factor) +ℤ pos 15) =
-        rw sum (record { sfits = lt_of_lt_of_le few (lit≤ tt) }) in
-    let sum_back : to_z w64 (of_z w64 (to_z w64 (of_z w64 c.args.factor) +ℤ pos 15)) ≡ pos (above_least c.args.factor) =
-        to_z-of_z {w = w64} sum_fits ∙ sum in
-    rw sum_back (tt, record { fits = lt_of_lt_of_le few (lit≤ tt) })
+    let p = passes c.args.factor _ c.ranges.factor c.between.ensures c.if-not-between.false in
+    rw p.back (tt, record { fits = lt_of_lt_of_le p.few (lit≤ tt) })
 
 pub returns-then-i-eq30 : goal.returns-then-i-eq30
 returns-then-i-eq30 c =
-    let passed : is_factor c.args.factor ≡ true =
-        let t = simp (to_z-of_z {w = w64} c.ranges.factor) at c.between.ensures in
-    sym t ∙ c.if-not-between.false in
-    let e : above_least c.args.factor ≡ 30 = sym (place c) ∙ c.if-i-eq30.true in
-    accuracy_promised (ap (λ (n : ℕ). Given (get_or centimetres n 0)) (sym e) ∙ in_table c.args.factor passed)
+    let p = passes c.args.factor _ c.ranges.factor c.between.ensures c.if-not-between.false in
+    let e : above_least c.args.factor ≡ 30 = sym (ap nat_abs p.back) ∙ c.if-i-eq30.true in
+    accuracy_promised (ap (λ (n : ℕ). Given (get_or centimetres n 0)) (sym e) ∙ in_table c.args.factor p.among)
 
 pub offset_bounds-i : goal.offset_bounds-i
 offset_bounds-i c =
-    let passed : is_factor c.args.factor ≡ true =
-        let t = simp (to_z-of_z {w = w64} c.ranges.factor) at c.between.ensures in
-    sym t ∙ c.if-not-between.false in
-    let few : above_least c.args.factor < 31 = (sum_is c.args.factor passed).1 in
-    record { fits = omega (arith, place c, few) }
+    let p = passes c.args.factor _ c.ranges.factor c.between.ensures c.if-not-between.false in
+    record { fits = omega (arith, ap nat_abs p.back, p.few) }
 
-pub TODO-array-read-t11 : goal.TODO-array-read-t11
-TODO-array-read-t11 c =
-    let passed : is_factor c.args.factor ≡ true =
-        let t = simp (to_z-of_z {w = w64} c.ranges.factor) at c.between.ensures in
-    sym t ∙ c.if-not-between.false in
-    let few : above_least c.args.factor < 31 = (sum_is c.args.factor passed).1 in
-    let n = c.if-i-eq30.false in omega (arith, place c, few)
+pub bounds-i : goal.bounds-i
+bounds-i c =
+    let p = passes c.args.factor _ c.ranges.factor c.between.ensures c.if-not-between.false in
+    let n = c.if-i-eq30.false in omega (arith, ap nat_abs p.back, p.few)
 
 pub returns : goal.returns
 returns c =
-    let passed : is_factor c.args.factor ≡ true =
-        let t = simp (to_z-of_z {w = w64} c.ranges.factor) at c.between.ensures in
-    sym t ∙ c.if-not-between.false in
-    accuracy_promised (ap (λ (n : ℕ). Given (get_or centimetres n 0)) (place c) ∙ in_table c.args.factor passed)
+    let p = passes c.args.factor _ c.ranges.factor c.between.ensures c.if-not-between.false in
+    accuracy_promised (ap (λ (n : ℕ). Given (get_or centimetres n 0)) (ap nat_abs p.back) ∙ in_table c.args.factor p.among)

@@ -20,6 +20,12 @@ use Rattle.format.proofs.Numbered.{days_promised}
 use Rattle.values.proofs.Fields.{inside}
 use Rattle.values.proofs.day_count.Goals as goal
 
+abbrev is_interval : ℤ → Bool
+is_interval n4 = le_z (pos 1) n4 && le_z n4 (pos 31)
+
+abbrev is_day : ℤ → Bool
+is_day nt = le_z (pos 1) nt && le_z nt (pos 1461)
+
 module _ (n4 nt : ℤ) where
   no-interval : is_interval n4 ≡ false → NotGiven (OutOfRange 10) ≡ day_count n4 nt
   unfolding day_count ranges in_range
@@ -30,12 +36,6 @@ module _ (n4 nt : ℤ) where
   counted : is_interval n4 ≡ true → is_day nt ≡ true → Given (1461 * (nat_abs n4 - 1) + nat_abs nt - 1) ≡ day_count n4 nt
   unfolding day_count ranges in_range
   counted e f = rw (e, f)
-
-abbrev is_interval : ℤ → Bool
-is_interval n4 = le_z (pos 1) n4 && le_z n4 (pos 31)
-
-abbrev is_day : ℤ → Bool
-is_day nt = le_z (pos 1) nt && le_z nt (pos 1461)
 
 abbrev cast : ℤ → ℕ
 cast z = nat_abs (to_z w64 (of_z w64 z))
@@ -63,64 +63,47 @@ returns-then-not-between-2 c =
     days_promised
     (no-day c.args.n4 c.args.nt (sym t ∙ c.if-not-between.false) (sym u ∙ c.if-not-between-2.true))
 
+-- what the tests let pass, as the machine reads it back
+passed : (z : ℤ) (k : ℕ) (b : Bool) → SFits w64 z
+    → b ≡ (le_z (pos 1) (to_z w64 (of_z w64 z)) && le_z (to_z w64 (of_z w64 z)) (pos k)) → b ≡ true
+    → ((le_z (pos 1) z && le_z z (pos k)) ≡ true) × Cast z k
+passed z k b s e h =
+    let p : (le_z (pos 1) z && le_z z (pos k)) ≡ true = sym (simp (to_z-of_z {w = w64} s) at e) ∙ h in
+    (p, cast-inside z k s p)
+
 pub overflow_cast-interval : goal.overflow_cast-interval
 overflow_cast-interval c =
-    let interval-passed : is_interval c.args.n4 ≡ true =
-        let t = simp (to_z-of_z {w = w64} c.ranges.n4) at c.between.ensures in
-    sym t ∙ c.if-not-between.false in
-    let n4-cast : Cast c.args.n4 31 = cast-inside c.args.n4 31 c.ranges.n4 interval-passed in
-    (n4-cast.plus, record { fits = omega (arith, n4-cast.most) })
+    let n = (passed c.args.n4 31 _ c.ranges.n4 c.between.ensures c.if-not-between.false).1 in
+    (n.plus, record { fits = omega (arith, n.most) })
 
 pub overflow_cast-day : goal.overflow_cast-day
 overflow_cast-day c =
-    let day-passed : is_day c.args.nt ≡ true =
-        let t = simp (to_z-of_z {w = w64} c.ranges.nt) at c.between-2.ensures in sym t ∙ c.if-not-between-2.false in
-    let nt-cast : Cast c.args.nt 1461 = cast-inside c.args.nt 1461 c.ranges.nt day-passed in
-    (nt-cast.plus, record { fits = omega (arith, nt-cast.most) })
+    let n = (passed c.args.nt 1461 _ c.ranges.nt c.between-2.ensures c.if-not-between-2.false).1 in
+    (n.plus, record { fits = omega (arith, n.most) })
 
 pub overflow_sub-result : goal.overflow_sub-result
-overflow_sub-result c =
-    let interval-passed : is_interval c.args.n4 ≡ true =
-        let t = simp (to_z-of_z {w = w64} c.ranges.n4) at c.between.ensures in
-    sym t ∙ c.if-not-between.false in
-    let n4-cast : Cast c.args.n4 31 = cast-inside c.args.n4 31 c.ranges.n4 interval-passed in
-    n4-cast.least
+overflow_sub-result c = (passed c.args.n4 31 _ c.ranges.n4 c.between.ensures c.if-not-between.false).1.least
 
 pub overflow_mul-result : goal.overflow_mul-result
 overflow_mul-result c =
-    let interval-passed : is_interval c.args.n4 ≡ true =
-        let t = simp (to_z-of_z {w = w64} c.ranges.n4) at c.between.ensures in
-    sym t ∙ c.if-not-between.false in
-    let n4-cast : Cast c.args.n4 31 = cast-inside c.args.n4 31 c.ranges.n4 interval-passed in
-    record { fits = omega (arith, n4-cast.most) }
+    let n = (passed c.args.n4 31 _ c.ranges.n4 c.between.ensures c.if-not-between.false).1 in
+    record { fits = omega (arith, n.most) }
 
 pub overflow_add-result : goal.overflow_add-result
 overflow_add-result c =
-    let interval-passed : is_interval c.args.n4 ≡ true =
-        let t = simp (to_z-of_z {w = w64} c.ranges.n4) at c.between.ensures in
-    sym t ∙ c.if-not-between.false in
-    let day-passed : is_day c.args.nt ≡ true =
-        let t = simp (to_z-of_z {w = w64} c.ranges.nt) at c.between-2.ensures in sym t ∙ c.if-not-between-2.false in
-    let n4-cast : Cast c.args.n4 31 = cast-inside c.args.n4 31 c.ranges.n4 interval-passed in
-    let nt-cast : Cast c.args.nt 1461 = cast-inside c.args.nt 1461 c.ranges.nt day-passed in
-    record { fits = omega (arith, n4-cast.most, nt-cast.most) }
+    let n = (passed c.args.n4 31 _ c.ranges.n4 c.between.ensures c.if-not-between.false).1 in
+    let d = (passed c.args.nt 1461 _ c.ranges.nt c.between-2.ensures c.if-not-between-2.false).1 in
+    record { fits = omega (arith, n.most, d.most) }
 
 pub overflow_sub-result-2 : goal.overflow_sub-result-2
 overflow_sub-result-2 c =
-    let day-passed : is_day c.args.nt ≡ true =
-        let t = simp (to_z-of_z {w = w64} c.ranges.nt) at c.between-2.ensures in sym t ∙ c.if-not-between-2.false in
-    let nt-cast : Cast c.args.nt 1461 = cast-inside c.args.nt 1461 c.ranges.nt day-passed in
-    omega (arith, nt-cast.least)
+    let d = (passed c.args.nt 1461 _ c.ranges.nt c.between-2.ensures c.if-not-between-2.false).1 in
+    omega (arith, d.least)
 
 pub returns : goal.returns
 returns c =
-    let interval-passed : is_interval c.args.n4 ≡ true =
-        let t = simp (to_z-of_z {w = w64} c.ranges.n4) at c.between.ensures in
-    sym t ∙ c.if-not-between.false in
-    let day-passed : is_day c.args.nt ≡ true =
-        let t = simp (to_z-of_z {w = w64} c.ranges.nt) at c.between-2.ensures in sym t ∙ c.if-not-between-2.false in
-    let n4-cast : Cast c.args.n4 31 = cast-inside c.args.n4 31 c.ranges.n4 interval-passed in
-    let nt-cast : Cast c.args.nt 1461 = cast-inside c.args.nt 1461 c.ranges.nt day-passed in
+    let n = passed c.args.n4 31 _ c.ranges.n4 c.between.ensures c.if-not-between.false in
+    let d = passed c.args.nt 1461 _ c.ranges.nt c.between-2.ensures c.if-not-between-2.false in
     days_promised
-    (ap₂ (λ (a b : ℕ). Given (1461 * (a - 1) + b - 1)) n4-cast.same nt-cast.same
-    ∙ counted c.args.n4 c.args.nt interval-passed day-passed)
+    (ap₂ (λ (a b : ℕ). Given (1461 * (a - 1) + b - 1)) n.1.same d.1.same
+    ∙ counted c.args.n4 c.args.nt n.0 d.0)

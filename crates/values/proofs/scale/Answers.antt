@@ -13,7 +13,7 @@ int_to_float-result c = rw (to_z-of_z {w = w64} c.ranges.count) (in_float_lem c.
 pub returns : goal.returns
 returns c =
     let h : c.args.k < 256 = search rules in
-    rw (to_z-of_z {w = w64} c.ranges.count) (
-      product_is c.args.count c.args.k _ c.requires (omega arith) c.power.ensures,
-      product-scaled c.args.count c.args.k _ c.requires (omega arith) c.power.ensures,
-    )
+    rw (to_z-of_z {w = w64} c.ranges.count) (record {
+      value = product_is c.args.count c.args.k _ c.requires (omega arith) c.power.ensures;
+      scaled = product-scaled c.args.count c.args.k _ c.requires (omega arith) c.power.ensures;
+    })

@@ -11,5 +11,5 @@ pub returns-then-n-eq0 : goal.returns-then-n-eq0
 returns-then-n-eq0 c =
     let a = c.args in
     rw c.if-n-eq0.true
-    (sym (ap (λ (p : List Bool). put a.to p (unpack a.part.now)) (cut_none 0 (unpack a.t3))
+    (sym (ap (λ (p : List Bool). put a.to p (unpack a.part.now)) (cut_none 0 (unpack a.raw))
     ∙ put_none a.to (unpack a.part.now)))

@@ -86,7 +86,7 @@ put_field-requires-2 c =
     let few : c.check_count-degree.result ≤ 24 = omega (arith, c.check_count-degree.ensures, check_few c.args.r.kind) in
     let pieces : 50 + total (places_of c.args.r.kind) + c.raw_count-n.result + c.check_count-degree.result ≡ c.args.long =
         omega (arith, string-filled c.args.r.kind, c.check_count-degree.ensures, c.raw_count-n.ensures, c.requires.1) in
-    let same-room : length c.put_raw.last.0 ≡ length c.args.part.now =
+    let same-room : length c.put_raw.new.part ≡ length c.args.part.now =
         c.part-3-1.given ∙ c.part-2-1.given
     ∙ c.part-1.given in
     let p = pieces in
