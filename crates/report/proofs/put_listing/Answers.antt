@@ -14,13 +14,13 @@ returns-in_default c = absurd (never_refused c.args.rec.now _ _ _ c.list-listed.
 
 pub put_lines-requires : goal.put_lines-requires
 put_lines-requires c =
-    let known : Found c.args.rec.now c.list-listed.new.1.1.1.0 c.in-Given.n =
+    let known : Found c.args.rec.now c.list-listed.new.list c.in-Given.n =
         found c.args.rec.now _ _ _ c.list-listed.ensures c.requires.0 refl c.in-Given.n c.in-Given.is in
     let k = known in
     (c.requires.0, k.enough, k.inside, lines_fit k c.requires.0 c.requires.1 c.put_bytes-at.ensures)
 
 pub returns : goal.returns
 returns c =
-    let known : Found c.args.rec.now c.list-listed.new.1.1.1.0 c.in-Given.n =
+    let known : Found c.args.rec.now c.list-listed.new.list c.in-Given.n =
         found c.args.rec.now _ _ _ c.list-listed.ensures c.requires.0 refl c.in-Given.n c.in-Given.is in
     wrote_listed known c.requires.0 c.requires.1 c.put_bytes-at.ensures c.put_lines.ensures

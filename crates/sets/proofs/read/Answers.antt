@@ -85,10 +85,10 @@ returns-in-Refused-tested c =
         ap₂ (λ (p n : ℕ). p + n) second_is (c.length_of-long-2.ensures ∙ ap length-read two) in
     let three : c.read-three.result ≡ at third-place = c.read-three.ensures.answered ∙ ap at third-is in
     let made : Set =
-        record { first = c.read-one.result.content; second = c.read-two.result.content; c = c.read-three.result.content } in
+        record { first = c.read-one.result.content; second = c.read-two.result.content; third = c.read-three.result.content } in
     let set : Set = set_at c.args.phase c.args.rec.now c.args.count c.args.place in
     let same : made ≡ set =
-        λ i. record { first = (c.read-one.ensures.answered i).content; second = (two i).content; c = (three i).content } in
+        λ i. record { first = (c.read-one.ensures.answered i).content; second = (two i).content; third = (three i).content } in
     let tests : (a : Answer) → c.first-tested.result ≡ a → beside_set a set ≡ set_reading c.args.phase c.args.rec.now c.args.count c.args.place =
         λ a e. last_tested c.args.phase c.args.rec.now c.args.count c.args.place passed passed-2 a
     (sym (ap₂ ◌then◌ (ap answer-of three) (c.set_tests-together.ensures ∙ ap set_tests same)) ∙ sym c.first-tested.ensures ∙ e) in
@@ -109,10 +109,10 @@ returns-in-Passed c =
         ap₂ (λ (p n : ℕ). p + n) second_is (c.length_of-long-2.ensures ∙ ap length-read two) in
     let three : c.read-three.result ≡ at third-place = c.read-three.ensures.answered ∙ ap at third-is in
     let made : Set =
-        record { first = c.read-one.result.content; second = c.read-two.result.content; c = c.read-three.result.content } in
+        record { first = c.read-one.result.content; second = c.read-two.result.content; third = c.read-three.result.content } in
     let set : Set = set_at c.args.phase c.args.rec.now c.args.count c.args.place in
     let same : made ≡ set =
-        λ i. record { first = (c.read-one.ensures.answered i).content; second = (two i).content; c = (three i).content } in
+        λ i. record { first = (c.read-one.ensures.answered i).content; second = (two i).content; third = (three i).content } in
     let tests : (a : Answer) → c.first-tested.result ≡ a → beside_set a set ≡ set_reading c.args.phase c.args.rec.now c.args.count c.args.place =
         λ a e. last_tested c.args.phase c.args.rec.now c.args.count c.args.place passed passed-2 a
     (sym (ap₂ ◌then◌ (ap answer-of three) (c.set_tests-together.ensures ∙ ap set_tests same)) ∙ sym c.first-tested.ensures ∙ e) in

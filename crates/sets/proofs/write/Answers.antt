@@ -57,7 +57,7 @@ overflow_add-second c =
     (c.first.ensures ∙ ap₂ ◌then◌ c.set_tests-together.ensures c.room_test-room.ensures) in
     let late-passes : later c.args.count c.args.place c.args.s ≡ Passed = sym late_is ∙ c.in_default-late.is in
     let says : Tested c.args.count c.args.place c.args.s = later_says c.args.count c.args.place c.args.s late-passes in
-    omega (arith, says.ranges, inside.0.short_enough)
+    omega (arith, says.fits, inside.0.short_enough)
 
 pub overflow_add-third : goal.overflow_add-third
 overflow_add-third c =
@@ -71,7 +71,7 @@ overflow_add-third c =
     (c.first.ensures ∙ ap₂ ◌then◌ c.set_tests-together.ensures c.room_test-room.ensures) in
     let late-passes : later c.args.count c.args.place c.args.s ≡ Passed = sym late_is ∙ c.in_default-late.is in
     let says : Tested c.args.count c.args.place c.args.s = later_says c.args.count c.args.place c.args.s late-passes in
-    omega (arith, says.ranges, inside.0.short_enough)
+    omega (arith, says.fits, inside.0.short_enough)
 
 pub put_at-requires : goal.put_at-requires
 put_at-requires c =
@@ -87,7 +87,7 @@ put_at-requires c =
     let says : Tested c.args.count c.args.place c.args.s = later_says c.args.count c.args.place c.args.s late-passes in
     let room : c.args.place + set_length ≤ 8 * length c.args.rec.now = omega (arith, says.fits, inside.0.in_bytes) in
     let i = inside.0 in
-    (sym (lengths c.args.s says.together).0, omega (arith, says.ranges, i.short_enough), omega (arith, room), says.first)
+    (sym (lengths c.args.s says.together).0, omega (arith, says.fits, i.short_enough), omega (arith, room), says.first)
 
 pub put_at-requires-2 : goal.put_at-requires-2
 put_at-requires-2 c =
