@@ -77,8 +77,8 @@ fn phase_of(number: u32) -> Phase
 // Lists the starts of the strings in the first `count` true bits.
 #[unsafe(no_mangle)]
 pub extern "C" fn l1oc_list(bytes: &[u8], count: usize, phase: u32, list: &mut [u32]) -> Code
-    ensures value { result ≡ coded (outcome_code (listing (phase_of phase) bytes.now count (length list.old))) }
-    ensures value_2 { result ≡ coded (list_returned (phase_of phase) bytes.now count (length list.old)) }
+    ensures answered { result ≡ coded (outcome_code (listing (phase_of phase) bytes.now count (length list.old))) }
+    ensures numbered { result ≡ coded (list_returned (phase_of phase) bytes.now count (length list.old)) }
     ensures list_promise { ListPromise (phase_of phase) bytes.now count list.old
         (listing (phase_of phase) bytes.now count (length list.old)) list.new }
 {
@@ -89,8 +89,8 @@ pub extern "C" fn l1oc_list(bytes: &[u8], count: usize, phase: u32, list: &mut [
 // Reads the string at a place: the answer, beside the record or a blank one.
 #[unsafe(no_mangle)]
 pub extern "C" fn l1oc_read(bytes: &[u8], count: usize, phase: u32, place: usize) -> ReadCode
-    ensures value { result ≡ read_coded (reading (phase_of phase) bytes.now count place) }
-    ensures number_value { (result.number ≡ (read_returned (phase_of phase) bytes.now count place).0)
+    ensures answered { result ≡ read_coded (reading (phase_of phase) bytes.now count place) }
+    ensures numbered { (result.number ≡ (read_returned (phase_of phase) bytes.now count place).0)
         × (result.value ≡ (read_returned (phase_of phase) bytes.now count place).1) }
     ensures read_promise { ReadPromise (phase_of phase) bytes.now count place
         (reading (phase_of phase) bytes.now count place) }
@@ -110,8 +110,8 @@ pub extern "C" fn l1oc_read(bytes: &[u8], count: usize, phase: u32, place: usize
 // Writes a record's string at a place, and answers the place after it. A refusal leaves every byte unchanged.
 #[unsafe(no_mangle)]
 pub extern "C" fn l1oc_write(bytes: &mut [u8], count: usize, place: usize, content: Record) -> Code
-    ensures value { result ≡ coded (outcome_code (writing (length bytes.old) count place content)) }
-    ensures value_2 { result ≡ coded (write_returned (length bytes.old) count place content) }
+    ensures answered { result ≡ coded (outcome_code (writing (length bytes.old) count place content)) }
+    ensures numbered { result ≡ coded (write_returned (length bytes.old) count place content) }
     ensures write_promise { WritePromise bytes.old count place content (writing (length bytes.old) count place content)
         bytes.new }
     ensures reads_back { result.number ≡ 0 → ReadsBack bytes.new count place content }
@@ -123,8 +123,8 @@ pub extern "C" fn l1oc_write(bytes: &mut [u8], count: usize, place: usize, conte
 // Reads the set at a place: the answer, beside the set or a blank one.
 #[unsafe(no_mangle)]
 pub extern "C" fn l1oc_read_set(bytes: &[u8], count: usize, phase: u32, place: usize) -> SetCode
-    ensures value { result ≡ set_coded (set_reading (phase_of phase) bytes.now count place) }
-    ensures number_value { (result.number ≡ (set_read_returned (phase_of phase) bytes.now count place).0)
+    ensures answered { result ≡ set_coded (set_reading (phase_of phase) bytes.now count place) }
+    ensures numbered { (result.number ≡ (set_read_returned (phase_of phase) bytes.now count place).0)
         × (result.value ≡ (set_read_returned (phase_of phase) bytes.now count place).1) }
     ensures set_read_promise { SetReadPromise (phase_of phase) bytes.now count place
         (set_reading (phase_of phase) bytes.now count place) }
@@ -144,8 +144,8 @@ pub extern "C" fn l1oc_read_set(bytes: &[u8], count: usize, phase: u32, place: u
 // Writes a set at a place, and answers the place after it. A refusal leaves every byte unchanged.
 #[unsafe(no_mangle)]
 pub extern "C" fn l1oc_write_set(bytes: &mut [u8], count: usize, place: usize, content: Set) -> Code
-    ensures value { result ≡ coded (outcome_code (set_writing (length bytes.old) count place content)) }
-    ensures value_2 { result ≡ coded (set_write_returned (length bytes.old) count place content) }
+    ensures answered { result ≡ coded (outcome_code (set_writing (length bytes.old) count place content)) }
+    ensures numbered { result ≡ coded (set_write_returned (length bytes.old) count place content) }
     ensures set_write_promise { SetWritePromise bytes.old count place content
         (set_writing (length bytes.old) count place content) bytes.new }
     ensures set_reads_back { result.number ≡ 0 → SetReadsBack bytes.new count place content }
@@ -157,8 +157,8 @@ pub extern "C" fn l1oc_write_set(bytes: &mut [u8], count: usize, place: usize, c
 // The value of a record's field by its number.
 #[unsafe(no_mangle)]
 pub extern "C" fn l1oc_scaled(content: Record, field: usize) -> ValueCode
-    ensures value { result ≡ value_coded (value_code (scaling content field)) }
-    ensures number_value { (result.number ≡ (scale_returned content field).0) × (result.value ≡ (scale_returned content field).1) }
+    ensures answered { result ≡ value_coded (value_code (scaling content field)) }
+    ensures numbered { (result.number ≡ (scale_returned content field).0) × (result.value ≡ (scale_returned content field).1) }
     ensures scale_promise { ScalePromise content field (scaling content field) }
     ensures scaled { result.number ≡ 0 → IsScaled (count_of content field) (power_of content.kind field) result.scaled }
 {
@@ -169,8 +169,8 @@ pub extern "C" fn l1oc_scaled(content: Record, field: usize) -> ValueCode
 // The centimetres of an accuracy factor.
 #[unsafe(no_mangle)]
 pub extern "C" fn l1oc_accuracy(factor: i64) -> Code
-    ensures value { result ≡ coded (outcome_code (accuracy factor)) }
-    ensures value_2 { result ≡ coded (accuracy_returned factor) }
+    ensures answered { result ≡ coded (outcome_code (accuracy factor)) }
+    ensures numbered { result ≡ coded (accuracy_returned factor) }
 {
     let answer = values::accuracy(factor);
     answers::outcome_code(answer)
@@ -179,8 +179,8 @@ pub extern "C" fn l1oc_accuracy(factor: i64) -> Code
 // The days from 1 January 1996 to day `nt` of the four-year interval `n4`.
 #[unsafe(no_mangle)]
 pub extern "C" fn l1oc_day_count(n4: i64, nt: i64) -> Code
-    ensures value { result ≡ coded (outcome_code (day_count n4 nt)) }
-    ensures value_2 { result ≡ coded (days_returned n4 nt) }
+    ensures answered { result ≡ coded (outcome_code (day_count n4 nt)) }
+    ensures numbered { result ≡ coded (days_returned n4 nt) }
 {
     let answer = values::day_count(n4, nt);
     answers::outcome_code(answer)

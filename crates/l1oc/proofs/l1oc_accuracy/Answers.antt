@@ -8,4 +8,5 @@ use Rattle.l1oc.proofs.l1oc_accuracy.Goals as goal
 pub returns : goal.returns
 returns c =
     let p = simp (to_z-of_z {w = w64} c.ranges.factor) at c.accuracy-answer.ensures in
-    factors c.args.factor _ c.outcome_code.result p c.outcome_code.ensures
+    let h = factors c.args.factor _ c.outcome_code.result p c.outcome_code.ensures in
+    record { answered = h.0; numbered = h.1 }

@@ -6,5 +6,6 @@ use Rattle.l1oc.proofs.l1oc_list.Goals as goal
 pub returns : goal.returns
 returns c =
     let a = c.args in
-    lists c.phase_of.ensures a.bytes.now a.count a.list.now _ _ c.outcome_code.result
-    c.list-answer.ensures c.outcome_code.ensures
+    let h = lists c.phase_of.ensures a.bytes.now a.count a.list.now _ _ c.outcome_code.result
+    c.list-answer.ensures c.outcome_code.ensures in
+    record { answered = h.0; numbered = h.1.0; list_promise = h.1.1 }

@@ -7,5 +7,6 @@ pub returns : goal.returns
 returns c =
     let a = c.args in
     let e = c.answer_code-code.ensures in
-    reads c.phase_of.ensures a.bytes.now a.count a.place _ c.answer_code-code.result
-    c.read-found.ensures (e.0, e.1)
+    let h = reads c.phase_of.ensures a.bytes.now a.count a.place _ c.answer_code-code.result
+    c.read-found.ensures (e.0, e.1) in
+    record { answered = h.0; numbered = h.1.0; read_promise = h.1.1.0; writes_back = h.1.1.1 }

@@ -6,4 +6,5 @@ use Rattle.l1oc.proofs.l1oc_scaled.Goals as goal
 pub returns : goal.returns
 returns c =
     let a = c.args in
-    scales a.content a.field _ c.value_code.result c.scaled-answer.ensures c.value_code.ensures
+    let h = scales a.content a.field _ c.value_code.result c.scaled-answer.ensures c.value_code.ensures in
+    record { answered = h.0; numbered = h.1.0; scale_promise = h.1.1.0; scaled = h.1.1.1 }

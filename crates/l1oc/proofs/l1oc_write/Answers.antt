@@ -6,4 +6,5 @@ use Rattle.l1oc.proofs.l1oc_write.Goals as goal
 pub returns : goal.returns
 returns c =
     let a = c.args in
-    writes a.bytes.now a.count a.place a.content _ _ c.outcome_code.result c.write-answer.ensures c.outcome_code.ensures
+    let h = writes a.bytes.now a.count a.place a.content _ _ c.outcome_code.result c.write-answer.ensures c.outcome_code.ensures in
+    record { answered = h.0; numbered = h.1.0; write_promise = h.1.1.0; reads_back = h.1.1.1 }
