@@ -1,5 +1,6 @@
 // Answers: their numbers and values in the paper, tests one after another, and the tests of a bit count and a place.
 #![tactic(auto)]
+
 ghost use Rattle.std.specs.Prelude.{◌≡◌, ◌^◌, ◌<◌};
 ghost use Rattle.format.specs.Answers.{refusal_code, answer_code, outcome_code};
 ghost use Rattle.format.specs.Tests.{is_passed, ◌then◌, count_tests, place_tests};

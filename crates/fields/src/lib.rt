@@ -1,5 +1,6 @@
 // A type's information fields: their bits fetched as numbers, and numbers put as their bits.
 #![tactic(auto)]
+
 ghost use Rattle.std.specs.Prelude.{◌≡◌, true, false, ◌+◌, ◌*◌, ◌-◌, ◌^◌, ◌<◌, ◌≤◌, pos, nat_abs, length, drop};
 ghost use Rattle.bits.specs.Bits.{number, bits, unpack, true_bits, put};
 ghost use Rattle.format.specs.Fields.{widest, total, codes};

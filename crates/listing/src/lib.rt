@@ -1,5 +1,6 @@
 // The listing of a recording: the starts of the strings that stand in it.
 #![tactic(auto)]
+
 ghost use Rattle.std.specs.Prelude.{◌≡◌, cond, ◌≤◌, ltb, length, set, take};
 ghost use Rattle.bits.specs.Bits.{recorded, put};
 ghost use Rattle.format.specs.Demand3.{ListPromise};

@@ -1,5 +1,6 @@
 // The tests of an ephemeris set: those of its records, and that they belong together.
 #![tactic(auto)]
+
 ghost use Rattle.std.specs.Prelude.{◌≡◌, eqb};
 ghost use Rattle.format.specs.declared.Refusal.TheVariants.{OtherTypes, OtherSatellites, OtherTimes};
 ghost use Rattle.format.specs.Sets.{next_time, other_types, other_satellites, other_times, set_tests, member_tests};

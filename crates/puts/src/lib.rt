@@ -1,5 +1,6 @@
 // Bits put into lent bytes: a field, a run copied, a run as whole bytes. What is put, the definitions of `bits` say.
 #![tactic(auto)]
+
 ghost use Rattle.std.specs.Prelude.{◌≡◌, ◌+◌, ◌*◌, ◌^◌, ◌<◌, ◌≤◌, length};
 ghost use Rattle.bits.specs.Bits.{bits, unpack, true_bits, cut, put, bytes_for, pack};
 

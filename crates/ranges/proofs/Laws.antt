@@ -16,7 +16,7 @@ use Rattle.format.proofs.Information.{length_information}
 use Rattle.format.specs.declared.Answer.{Answer}
 use Rattle.format.specs.declared.Answer.TheVariants.{Passed, Refused}
 use Rattle.format.specs.declared.Refusal.TheVariants.{OutOfRange}
-use Rattle.format.specs.Fields.{Field, unsigned, absent, width, least, most, in_range}
+use Rattle.format.specs.Fields.{Field, unsigned, absent, width, in_range}
 use Rattle.format.specs.Records.{ranges, is_zero}
 use Rattle.format.specs.Types.{places, places_of}
 use Rattle.types.specs.declared.rows.Row.{Row}

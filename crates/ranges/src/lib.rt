@@ -1,5 +1,6 @@
 // The tests of a record's fields: their ranges, and the orbit of type 20.
 #![tactic(auto)]
+
 ghost use Rattle.std.specs.Prelude.{◌≡◌, cond, not, ◌&&◌, eqb, leb};
 ghost use Rattle.std.specs.Int.Signed.{le_z};
 ghost use Rattle.format.specs.declared.Answer.TheVariants.{Refused};

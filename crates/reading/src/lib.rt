@@ -1,5 +1,6 @@
 // Reading the string at a place into a record.
 #![tactic(auto)]
+
 ghost use Rattle.std.specs.Prelude.{◌≡◌, ◌+◌, ◌*◌, ◌^◌, ◌<◌, ◌≤◌, length, replicate};
 ghost use Rattle.bits.specs.Bits.{true_bits, recorded, cut, put, Covers, pack};
 ghost use Rattle.format.specs.Reading.{record_at};

@@ -1,5 +1,6 @@
 // The tests of a record: those of its fields, of its unused places and raw bits, and of its minus-zero mark.
 #![tactic(auto)]
+
 ghost use Rattle.std.specs.Prelude.{◌≡◌, not, ◌&&◌, ◌||◌, eqb};
 ghost use Rattle.bits.specs.Bits.{odd};
 ghost use Rattle.format.specs.declared.Refusal.TheVariants.{NotZero};

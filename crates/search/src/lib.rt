@@ -1,5 +1,6 @@
 // The search for the next time mark in a recording.
 #![tactic(auto)]
+
 ghost use Rattle.std.specs.Prelude.{◌*◌, ◌^◌, ◌<◌, ◌≤◌, length};
 ghost use Rattle.bits.specs.Bits.{bits, recorded};
 ghost use Rattle.search.specs.Search.{NextMark, Hits};

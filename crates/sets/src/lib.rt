@@ -1,5 +1,6 @@
 // Ephemeris sets: three strings of types 10, 11 and 12, each where the one before it ends, read and written as one.
 #![tactic(auto)]
+
 ghost use Rattle.std.specs.Prelude.{◌≡◌};
 ghost use Rattle.format.specs.declared.Answer.TheVariants.{Refused};
 ghost use Rattle.format.specs.Sets.{blank_set, SetReadPromise, SetWritePromise};

@@ -1,5 +1,6 @@
 // Sign and magnitude: a signed field as a number, and a number as a signed field. The definitions are those of `bits`.
 #![tactic(auto)]
+
 ghost use Rattle.std.specs.Prelude.{◌≡◌, ◌-◌, ◌^◌, ◌<◌, ◌≤◌, nat_abs};
 ghost use Rattle.bits.specs.Bits.{number, bits};
 ghost use Rattle.bits.specs.Signed.{signed_of, is_minus_zero, sign_magnitude};

@@ -1,5 +1,6 @@
 // What stands at a place of a recording.
 #![tactic(auto)]
+
 ghost use Rattle.std.specs.Prelude.{◌≡◌, ◌≤◌};
 ghost use Rattle.bits.specs.Bits.{number, true_bits, recorded, cut, Covers};
 ghost use Rattle.format.specs.Standing.{standing};

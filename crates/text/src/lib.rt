@@ -1,5 +1,6 @@
 // Decimal numbers and comma-separated rows as bytes in a lent buffer. What a numeral or a row is, `specs/` says.
 #![tactic(auto)]
+
 ghost use Rattle.std.specs.Prelude.{cond, [], ◌∷◌, ◌++◌, ◌≡◌, ◌+◌, ◌-◌, ◌<◌, ◌≤◌, ltb, length};
 ghost use Rattle.text.specs.Text.{digit, comma, newline, numeral, row, number_most, row_numbers, line_most, Wrote};
 

@@ -1,5 +1,6 @@
 // What a string of a type is: its length, its check bits, its raw bits and its fields.
 #![tactic(auto)]
+
 pub mod rows;
 
 ghost use Rattle.std.specs.Prelude.{◌≡◌, true, map, ◌↔◌, ◌+◌, ◌*◌, ◌^◌, ◌<◌, ◌≤◌, length};

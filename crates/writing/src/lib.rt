@@ -1,5 +1,6 @@
 // Writing a record as a string.
 #![tactic(auto)]
+
 ghost use Rattle.std.specs.Prelude.{◌≡◌, ◌+◌, ◌*◌, ◌^◌, ◌<◌, ◌≤◌, length};
 ghost use Rattle.bits.specs.Bits.{number, unpack, cut, put};
 ghost use Rattle.format.specs.declared.Answer.TheVariants.{Passed};

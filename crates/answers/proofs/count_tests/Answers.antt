@@ -1,6 +1,5 @@
 -- `answers::count_tests`: each return is a case of the tests 1, 2. Assumes nothing.
 use native.Mathlib.Omega.{arith}
-use borrow.Author.Rules.{rules}
 use Rattle.format.proofs.Tests.{count_long, count-bytes, count_fits}
 use Rattle.answers.proofs.count_tests.Goals as goal
 

@@ -1,6 +1,5 @@
 -- `answers::place_tests`: 3 after 1 and 2. Assumes nothing.
 use native.Mathlib.Omega.{arith}
-use borrow.Author.Rules.{rules}
 use Rattle.format.proofs.Tests.{place_beyond, place-within}
 use Rattle.answers.proofs.place_tests.Goals as goal
 

@@ -1,5 +1,4 @@
 -- `bits::byte_at`: a byte, with the mask of the phase, is the number of its true bits. Assumes nothing.
-use borrow.Author.Rules.{rules}
 use Rattle.bits.proofs.Reading.{true_byte}
 use Rattle.bits.proofs.byte_at.Goals as goal
 

@@ -1,14 +1,7 @@
 -- `bits::field`: after i more bytes, v is the number of the recorded bits of all bytes so far. Assumes nothing.
 use mathlib.Core.Path.{◌≡◌}
-use mathlib.Core.Bool.{Bool}
-use mathlib.Core.List.{List}
-use Prim.Native.Nat.{◌+◌, ◌-◌, ◌*◌, ◌/◌, ◌%◌, ◌≤◌}
-use native.Mathlib.Omega.{arith}
-use lib.ListN.{length}
-use borrow.Author.Rules.{rules}
+use Prim.Native.Nat.{◌+◌, ◌-◌, ◌*◌, ◌≤◌}
 use Rattle.bits.specs.Bits.{number, unpack, cut}
-use Rattle.bits.proofs.Bytes.{length-unpack}
-use Rattle.bits.proofs.Reading.{more_in, the_field, no_bits}
 use Rattle.bits.proofs.field.Given as goal
 
 abbrev pub invariant-loop-i : goal.invariant-loop-i

@@ -1,7 +1,6 @@
 -- `bits::half_at`: byte after byte, from the last on. Assumes nothing.
 use Prim.Native.Nat.{◌+◌}
 use native.Mathlib.Omega.{arith}
-use borrow.Author.Rules.{rules}
 use Rattle.bits.proofs.Reading.{byte_in}
 use Rattle.bits.proofs.half_at.Goals as goal
 

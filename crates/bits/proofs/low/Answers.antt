@@ -1,5 +1,4 @@
 -- `bits::low`: the mask leaves the remainder by a power of two. Assumes nothing.
-use borrow.Author.Rules.{rules}
 use Rattle.bits.proofs.Reading.{one_shl_pos, the_low}
 use Rattle.bits.proofs.low.Goals as goal
 

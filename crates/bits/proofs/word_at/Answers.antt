@@ -1,7 +1,6 @@
 -- `bits::word_at`: the second four bytes behind the first four, and then the mask. Assumes nothing.
 use Prim.Native.Nat.{◌+◌, ◌*◌}
 use native.Mathlib.Omega.{arith}
-use borrow.Author.Rules.{rules}
 use Rattle.bits.specs.Bits.{unpack}
 use Rattle.bits.proofs.Bytes.{length-unpack}
 use Rattle.bits.proofs.Phases.{masked}

@@ -1,16 +1,11 @@
 -- `bits::zero_from`: no bit from the place on is one where what was seen is zero and the bits of the bytes from i on are. Assumes nothing.
-use mathlib.Core.Path.{◌≡◌, ◌∙◌}
+use mathlib.Core.Path.{◌≡◌}
 use mathlib.Core.Bool.{◌&&◌}
-use mathlib.Core.List.{List}
-use Prim.Native.Nat.{ℕ, ◌-◌, ◌%◌, ◌^◌, ◌≤◌}
-use native.Mathlib.Nat.{mod-le}
-use native.Mathlib.Omega.{arith}
+use Prim.Native.Nat.{◌-◌, ◌≤◌}
 use lib.Dec.{eqb}
 use lib.ListN.{length, drop}
-use borrow.Author.Rules.{rules}
 use Rattle.bits.specs.Bits.{unpack}
 use Rattle.bits.specs.Signed.{all_zero}
-use Rattle.bits.proofs.Zero.{zero-past, first_seen, byte_seen, all_seen}
 use Rattle.bits.proofs.zero_from.Given as goal
 
 abbrev pub invariant-loop-i : goal.invariant-loop-i

@@ -2,17 +2,17 @@
 use mathlib.Core.Path.{◌≡◌, ap, ◌∙◌}
 use mathlib.Core.Bool.{Bool}
 use mathlib.Core.List.{List}
-use Prim.Native.Nat.{ℕ, ◌-◌, ◌*◌, ◌≤◌}
+use Prim.Native.Nat.{◌*◌}
 use native.Mathlib.Omega.{arith}
 use lib.ListN.{length}
 use borrow.Author.Rules.{rules}
 use Rattle.bits.proofs.Lists.{length-cut, cut_whole}
 use Rattle.bits.proofs.Numbers.{bits_back}
 use Rattle.bits.proofs.Phases.{length_true}
-use Rattle.bits.specs.Bits.{number, bits, true_bits, cut}
+use Rattle.bits.specs.Bits.{bits, true_bits, cut}
 use Rattle.cyclic.specs.Register.{register_after}
 use Rattle.cyclic.proofs.Blocks.{after_block}
-use Rattle.cyclic.proofs.Remainders.{after, after_none, after-lt}
+use Rattle.cyclic.proofs.Remainders.{after_none, after-lt}
 use Rattle.cyclic.proofs.bytes_after.Goals as goal
 
 pub loop-i-init : goal.loop-i-init
@@ -32,7 +32,7 @@ loop-i-preserved c =
     let all : List Bool = true_bits c.args.phase c.args.bytes.now in
     let all-length : length all ≡ 8 * length c.args.bytes.now = length_true c.args.phase c.args.bytes.now in
     let the-bits : bits 8 c.byte_at.result ≡ cut (8 * c.loop-i.i) 8 all =
-        let u = all in
+    let u = all in
     ap (bits 8) c.byte_at.ensures.0
     ∙ bits_back 8 (cut (8 * c.loop-i.i) 8 u) (length-cut (8 * c.loop-i.i) 8 u (omega (arith, all-length))) in
     let a = c.args in (

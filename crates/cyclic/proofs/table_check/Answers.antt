@@ -3,17 +3,15 @@ use mathlib.Core.Path.{◌≡◌, ap, ◌∙◌}
 use mathlib.Core.List.{[], ◌∷◌}
 use Prim.Native.Nat.{ℕ, ◌-◌, ◌*◌, ◌/◌, ◌^◌, ◌<◌}
 use native.Mathlib.Omega.{arith}
-use borrow.Author.Rules.{rules}
 use Rattle.bits.specs.Bits.{zeros, cut}
 use Rattle.bits.proofs.Bytes.{unpack_part}
-use Rattle.cyclic.specs.Tables.{Table}
 use Rattle.cyclic.proofs.Remainders.{remainder-lt, the_check, first-zeros}
 use Rattle.cyclic.proofs.table_check.Goals as goal
 
 pub bytes_after-requires : goal.bytes_after-requires
 bytes_after-requires c =
     let register-lt : c.table_remainder-register.result < 2 ^ c.args.degree =
-        remainder-lt c.args.generator c.args.degree c.requires.table.highest _ _ c.table_remainder-register.ensures in
+    remainder-lt c.args.generator c.args.degree c.requires.table.highest _ _ c.table_remainder-register.ensures in
     record { start_bound = register-lt; table = c.requires.table }
 
 pub returns : goal.returns

@@ -1,5 +1,4 @@
 -- `cyclic::table_divides`: the remainder is 0 exactly where the generator divides. Assumes nothing.
-use borrow.Author.Rules.{rules}
 use Rattle.cyclic.proofs.Remainders.{tested}
 use Rattle.cyclic.proofs.table_divides.Goals as goal
 

@@ -1,10 +1,8 @@
 -- `cyclic::table_remainder`: the bits up to the end of the first byte fit into the empty register, and the others go in by the table.
 -- Assumes nothing.
 use mathlib.Core.Path.{◌≡◌, ap, ◌∙◌}
-use mathlib.Core.List.{List}
 use Prim.Native.Nat.{ℕ, ◌+◌, ◌-◌, ◌/◌, ◌%◌, ◌^◌, ◌<◌}
 use native.Mathlib.Omega.{arith}
-use borrow.Author.Rules.{rules}
 use Rattle.bits.specs.Bits.{number, true_bits}
 use Rattle.bits.proofs.Phases.{true_part}
 use Rattle.cyclic.specs.Register.{register_after}
@@ -20,9 +18,9 @@ pub returns-then-rest-eq0 : goal.returns-then-rest-eq0
 returns-then-rest-eq0 c =
     let end : ℕ = c.args.offset + c.args.count in
     let after-bits : ℕ → ℕ =
-        λ n. number (after (true_bits c.args.phase c.args.part.now) c.args.offset c.args.generator c.args.degree 0 n) in
+    λ n. number (after (true_bits c.args.phase c.args.part.now) c.args.offset c.args.generator c.args.degree 0 n) in
     let come : c.bytes_after-register.result ≡ after-bits (c.args.count - end % 8) =
-        let a = c.args in
+    let a = c.args in
     whole_after a.phase c.args.part.now a.offset a.count a.generator a.degree c.requires.le_count.0 c.requires.table.least c.requires.le_count.1
     _ _ c.byte_at.ensures.0
     (c.bytes_after-register.ensures ∙ ap (register_after a.degree a.generator _) (true_part a.phase _ _ c.args.part.now)) in
@@ -33,14 +31,14 @@ pub absorbed-requires : goal.absorbed-requires
 absorbed-requires c =
     let end : ℕ = c.args.offset + c.args.count in
     let after-bits : ℕ → ℕ =
-        λ n. number (after (true_bits c.args.phase c.args.part.now) c.args.offset c.args.generator c.args.degree 0 n) in
+    λ n. number (after (true_bits c.args.phase c.args.part.now) c.args.offset c.args.generator c.args.degree 0 n) in
     let come : c.bytes_after-register.result ≡ after-bits (c.args.count - end % 8) =
-        let a = c.args in
+    let a = c.args in
     whole_after a.phase c.args.part.now a.offset a.count a.generator a.degree c.requires.le_count.0 c.requires.table.least c.requires.le_count.1
     _ _ c.byte_at.ensures.0
     (c.bytes_after-register.ensures ∙ ap (register_after a.degree a.generator _) (true_part a.phase _ _ c.args.part.now)) in
     let register-lt : c.bytes_after-register.result < 2 ^ c.args.degree =
-        let a = c.args in
+    let a = c.args in
     after-lt (true_bits a.phase c.args.part.now) a.offset a.generator a.degree 0 _ _ come in
     record { table = c.requires.table; n_bound = (omega arith, register-lt, last-lt _ _ (omega arith) c.byte_at-2.ensures.1) }
 
@@ -48,9 +46,9 @@ pub returns : goal.returns
 returns c =
     let end : ℕ = c.args.offset + c.args.count in
     let after-bits : ℕ → ℕ =
-        λ n. number (after (true_bits c.args.phase c.args.part.now) c.args.offset c.args.generator c.args.degree 0 n) in
+    λ n. number (after (true_bits c.args.phase c.args.part.now) c.args.offset c.args.generator c.args.degree 0 n) in
     let come : c.bytes_after-register.result ≡ after-bits (c.args.count - end % 8) =
-        let a = c.args in
+    let a = c.args in
     whole_after a.phase c.args.part.now a.offset a.count a.generator a.degree c.requires.le_count.0 c.requires.table.least c.requires.le_count.1
     _ _ c.byte_at.ensures.0
     (c.bytes_after-register.ensures ∙ ap (register_after a.degree a.generator _) (true_part a.phase _ _ c.args.part.now)) in

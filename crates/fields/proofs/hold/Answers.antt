@@ -1,6 +1,5 @@
 -- `fields::hold`: what was held is put, or the new bits join it. Assumes nothing.
 use native.Mathlib.Omega.{arith}
-use borrow.Author.Rules.{rules}
 use Rattle.bits.proofs.Bytes.{length-unpack}
 use Rattle.bits.specs.Bits.{unpack}
 use Rattle.fields.proofs.Holding.{hold_anew, hold_more}

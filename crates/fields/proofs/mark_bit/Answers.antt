@@ -5,7 +5,6 @@ use Prim.Native.Nat.{◌*◌, ◌^◌}
 use native.Mathlib.Omega.{arith}
 use native.Mathlib.Nat.{zero-mul}
 use lib.Pow.{shl_exact}
-use borrow.Author.Rules.{rules}
 use Rattle.bits.specs.Signed.{is_minus_zero}
 use Rattle.bits.specs.Bits.{bit, bits}
 use Rattle.format.specs.Types.{mark_width}

@@ -1,21 +1,19 @@
 -- `fields::numbers_at`: what the loop has decoded when it has come to the place i of the record. Assumes nothing.
-use mathlib.Core.Path.{◌≡◌, ◌∙◌}
+use mathlib.Core.Path.{◌∙◌}
 use mathlib.Core.Bool.{Bool}
-use mathlib.Core.List.{List, map}
-use Prim.Native.Nat.{ℕ, ◌+◌, ◌-◌, ◌≤◌, ◌<◌}
+use mathlib.Core.List.{List}
+use Prim.Native.Nat.{ℕ, ◌+◌, ◌≤◌, ◌<◌}
 use native.Mathlib.Omega.{arith}
 use lib.IntN.{ℤ}
 use lib.ListN.{length, get_or, set}
 use mir.Facts.{to_z-of_z}
 use mir.Syntax.{w64}
 use mir.Val.{to_z, of_z}
-use borrow.Author.Rules.{rules}
 use Rattle.bits.proofs.Phases.{length_true}
 use Rattle.bits.specs.Bits.{true_bits}
 use Rattle.format.proofs.Information.{marks_cover}
-use Rattle.format.specs.Fields.{width as width_of, total}
+use Rattle.format.specs.Fields.{total}
 use Rattle.format.specs.Types.{places, places_of}
-use Rattle.types.specs.Rows.{Describes}
 use Rattle.fields.proofs.Decoding.{ReadSoFar, read_start, read_on, read_all, left_here}
 use Rattle.fields.proofs.Decoding.{mark-fits, width-here, signed-here, inside_here, small_here}
 use Rattle.fields.proofs.numbers_at.Goals as goal
@@ -46,7 +44,7 @@ number_of-requires c =
     let bits : List Bool = true_bits c.args.phase c.args.part.now in
     let below : c.loop-at.i < places = left_here c.loop-at.invariant.1 (omega (arith, c.requires.0)) in
     let room : c.args.from + total (places_of c.args.kind) ≤ length bits =
-        omega (arith, length_true c.args.phase c.args.part.now, c.requires.0, c.requires.1) in
+    omega (arith, length_true c.args.phase c.args.part.now, c.requires.0, c.requires.1) in
     let g = c.loop-at.invariant.1 in
     let w = c.widths_of-widths.ensures in
     let d = c.row_of-row.ensures in
@@ -63,7 +61,7 @@ mark_bit-minus-requires c =
     let bits : List Bool = true_bits c.args.phase c.args.part.now in
     let below : c.loop-at.i < places = left_here c.loop-at.invariant.1 (omega (arith, c.requires.0)) in
     let room : c.args.from + total (places_of c.args.kind) ≤ length bits =
-        omega (arith, length_true c.args.phase c.args.part.now, c.requires.0, c.requires.1) in
+    omega (arith, length_true c.args.phase c.args.part.now, c.requires.0, c.requires.1) in
     let g = c.loop-at.invariant.1 in
     let w = c.widths_of-widths.ensures in
     let d = c.row_of-row.ensures in
@@ -75,14 +73,14 @@ overflow_add-minus c =
     let bits : List Bool = true_bits c.args.phase c.args.part.now in
     let width : ℕ = get_or c.widths_of-widths.result c.loop-at.i 0 in
     let Read : List ℤ → ℕ → ℕ → ℕ → Type 0 =
-        λ numbers minus place next. ReadSoFar bits c.args.from c.args.kind numbers minus place next in
+    λ numbers minus place next. ReadSoFar bits c.args.from c.args.kind numbers minus place next in
     let below : c.loop-at.i < places = left_here c.loop-at.invariant.1 (omega (arith, c.requires.0)) in
     let room : c.args.from + total (places_of c.args.kind) ≤ length bits =
-        omega (arith, length_true c.args.phase c.args.part.now, c.requires.0, c.requires.1) in
+    omega (arith, length_true c.args.phase c.args.part.now, c.requires.0, c.requires.1) in
     let numbers : List ℤ = set c.loop-at.numbers c.loop-at.i (to_z w64 (of_z w64 c.number_of.result)) in
     let minus : ℕ = c.loop-at.minus + c.mark_bit-minus.result in
     let read_more : Read numbers minus (c.loop-at.at + width) (c.loop-at.i + 1) =
-        read_on c.loop-at.invariant.1 c.widths_of-widths.ensures c.row_of-row.ensures below room
+    read_on c.loop-at.invariant.1 c.widths_of-widths.ensures c.row_of-row.ensures below room
     c.field-x.ensures
     (to_z-of_z {w = w64} (record { sfits = c.number_of.type_inv }) ∙ c.number_of.ensures) c.mark_bit-minus.ensures in
     record { fits = mark-fits read_more }
@@ -103,14 +101,14 @@ loop-at-preserved c =
     let bits : List Bool = true_bits c.args.phase c.args.part.now in
     let width : ℕ = get_or c.widths_of-widths.result c.loop-at.i 0 in
     let Read : List ℤ → ℕ → ℕ → ℕ → Type 0 =
-        λ numbers minus place next. ReadSoFar bits c.args.from c.args.kind numbers minus place next in
+    λ numbers minus place next. ReadSoFar bits c.args.from c.args.kind numbers minus place next in
     let below : c.loop-at.i < places = left_here c.loop-at.invariant.1 (omega (arith, c.requires.0)) in
     let room : c.args.from + total (places_of c.args.kind) ≤ length bits =
-        omega (arith, length_true c.args.phase c.args.part.now, c.requires.0, c.requires.1) in
+    omega (arith, length_true c.args.phase c.args.part.now, c.requires.0, c.requires.1) in
     let numbers : List ℤ = set c.loop-at.numbers c.loop-at.i (to_z w64 (of_z w64 c.number_of.result)) in
     let minus : ℕ = c.loop-at.minus + c.mark_bit-minus.result in
     let read_more : Read numbers minus (c.loop-at.at + width) (c.loop-at.i + 1) =
-        read_on c.loop-at.invariant.1 c.widths_of-widths.ensures c.row_of-row.ensures below room
+    read_on c.loop-at.invariant.1 c.widths_of-widths.ensures c.row_of-row.ensures below room
     c.field-x.ensures
     (to_z-of_z {w = w64} (record { sfits = c.number_of.type_inv }) ∙ c.number_of.ensures) c.mark_bit-minus.ensures in
     (omega (arith, below), read_more)

@@ -1,10 +1,8 @@
 -- `fields::put_numbers`: what the loop has written or holds when it has come to the place i of the record. Assumes nothing.
 use mathlib.Core.Path.{◌≡◌, ◌∙◌}
-use mathlib.Core.Bool.{Bool}
-use mathlib.Core.List.{List, map}
-use Prim.Native.Nat.{ℕ, ◌+◌, ◌-◌, ◌^◌, ◌≤◌, ◌<◌}
+use Prim.Native.Nat.{◌+◌, ◌≤◌, ◌<◌}
 use native.Mathlib.Omega.{arith}
-use lib.IntN.{ℤ, pos}
+use lib.IntN.{pos}
 use lib.ListN.{length, get_or}
 use mir.Facts.{to_z-of_z}
 use mir.Syntax.{w64}
@@ -12,13 +10,11 @@ use mir.Val.{to_z, of_z}
 use borrow.Author.Rules.{rules}
 use Rattle.bits.proofs.Bytes.{length-unpack}
 use Rattle.bits.specs.Bits.{unpack}
-use Rattle.format.specs.Fields.{width, total}
+use Rattle.format.specs.Fields.{total}
 use Rattle.format.specs.Types.{places, places_of}
-use Rattle.types.specs.Rows.{Describes}
-use Rattle.fields.proofs.Coding.{WrittenSoFar, put-at-same, odd_seen, written_start, written_same, written_all, left_here}
+use Rattle.fields.proofs.Coding.{put-at-same, odd_seen, written_start, written_same, written_all, left_here}
 use Rattle.fields.proofs.Coding.{narrow_here, room-here, code_asks, x_fits, written_on}
 use Rattle.fields.proofs.Holding.{held_none}
-use Rattle.fields.specs.Coded.{after_held}
 use Rattle.fields.proofs.put_numbers.Goals as goal
 
 pub loop-at-init : goal.loop-at-init
@@ -56,7 +52,7 @@ code-x-requires c =
     let below : c.loop-at.i < places = left_here c.loop-at.invariant.5 (omega (arith, c.requires.to_value.0)) in
     let below-here : c.loop-at.i < places = below in
     let number : to_z w64 (of_z w64 (get_or c.args.numbers c.loop-at.i (pos 0))) ≡ get_or c.args.numbers c.loop-at.i (pos 0) =
-        to_z-of_z {w = w64} (record { sfits = c.code-arg-1.given }) in
+    to_z-of_z {w = w64} (record { sfits = c.code-arg-1.given }) in
     code_asks c.loop-at.invariant.5 c.widths_of-widths.ensures c.row_of-row.ensures below-here long number (odd_seen c.loop-at.marks)
 
 pub hold-held-requires : goal.hold-held-requires
@@ -65,7 +61,7 @@ hold-held-requires c =
     let below : c.loop-at.i < places = left_here c.loop-at.invariant.5 (omega (arith, c.requires.to_value.0)) in
     let below-here : c.loop-at.i < places = below in
     let number : to_z w64 (of_z w64 (get_or c.args.numbers c.loop-at.i (pos 0))) ≡ get_or c.args.numbers c.loop-at.i (pos 0) =
-        to_z-of_z {w = w64} (record { sfits = c.code-arg-1.given }) in
+    to_z-of_z {w = w64} (record { sfits = c.code-arg-1.given }) in
     let narrow = narrow_here c.loop-at.invariant.5 c.widths_of-widths.ensures c.row_of-row.ensures below-here in
     let room = room-here c.loop-at.invariant.5 c.widths_of-widths.ensures c.row_of-row.ensures below-here in
     let seen = odd_seen c.loop-at.marks in
@@ -90,7 +86,7 @@ loop-at-preserved c =
     let below : c.loop-at.i < places = left_here c.loop-at.invariant.5 (omega (arith, c.requires.to_value.0)) in
     let below-here : c.loop-at.i < places = below in
     let number : to_z w64 (of_z w64 (get_or c.args.numbers c.loop-at.i (pos 0))) ≡ get_or c.args.numbers c.loop-at.i (pos 0) =
-        to_z-of_z {w = w64} (record { sfits = c.code-arg-1.given }) in
+    to_z-of_z {w = w64} (record { sfits = c.code-arg-1.given }) in
     let e = c.hold-held.ensures in
     let code = c.code-x.ensures in
     let z = put-at-same _ _ c.loop-at.invariant.4 e.part_after in

@@ -1,23 +1,10 @@
 -- `fields::put_numbers`: what the loop has written or holds when it has come to the place i of the record. Assumes nothing.
-use mathlib.Core.Path.{◌≡◌, ◌∙◌}
-use mathlib.Core.Bool.{Bool}
-use mathlib.Core.List.{List, map}
-use Prim.Native.Nat.{ℕ, ◌+◌, ◌-◌, ◌^◌, ◌≤◌, ◌<◌}
-use native.Mathlib.Omega.{arith}
-use lib.IntN.{ℤ, pos}
-use lib.ListN.{length, get_or}
-use mir.Facts.{to_z-of_z}
-use mir.Syntax.{w64}
-use mir.Val.{to_z, of_z}
-use borrow.Author.Rules.{rules}
-use Rattle.bits.proofs.Bytes.{length-unpack}
+use mathlib.Core.Path.{◌≡◌}
+use Prim.Native.Nat.{◌+◌, ◌-◌, ◌^◌, ◌≤◌, ◌<◌}
+use lib.ListN.{length}
 use Rattle.bits.specs.Bits.{unpack}
-use Rattle.format.specs.Fields.{width, total}
-use Rattle.format.specs.Types.{places, places_of}
-use Rattle.types.specs.Rows.{Describes}
-use Rattle.fields.proofs.Coding.{WrittenSoFar, put-at-same, odd_seen, written_start, written_same, written_all, left_here}
-use Rattle.fields.proofs.Coding.{narrow_here, room-here, code_asks, x_fits, written_on}
-use Rattle.fields.proofs.Holding.{held_none}
+use Rattle.format.specs.Types.{places}
+use Rattle.fields.proofs.Coding.{WrittenSoFar}
 use Rattle.fields.specs.Coded.{after_held}
 use Rattle.fields.proofs.put_numbers.Given as goal
 

@@ -1,6 +1,5 @@
 -- `listing::note`: by cases of the index. Assumes nothing.
 use borrow.Author.Tests.{lt-ltb, le-ltb}
-use borrow.Author.Rules.{rules}
 use Rattle.listing.proofs.note.Goals as goal
 
 pub returns-then-index-room : goal.returns-then-index-room

@@ -1,6 +1,5 @@
 -- `members::member_tests`: the tests of each record in their order. Assumes nothing.
 use mathlib.Core.Path.{ap₂, ◌∙◌}
-use borrow.Author.Rules.{rules}
 use Rattle.format.specs.Sets.{member_tests}
 use Rattle.format.specs.Tests.{◌then◌}
 use Rattle.members.proofs.member_tests.Goals as goal

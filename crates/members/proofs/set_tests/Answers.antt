@@ -1,6 +1,5 @@
 -- `members::set_tests`: 12, 13, 14 in their order. Assumes nothing.
 use mathlib.Core.Path.{ap₂, ◌∙◌}
-use borrow.Author.Rules.{rules}
 use Rattle.format.specs.Sets.{set_tests}
 use Rattle.format.specs.Tests.{◌then◌}
 use Rattle.members.proofs.set_tests.Goals as goal

@@ -1,7 +1,5 @@
 -- `members::times_test`: by its two tests. Assumes nothing.
 use mathlib.Core.Path.{◌∙◌, sym}
-use borrow.Author.Rules.{rules}
-use borrow.Author.Tests.{not-true, not-false}
 use Rattle.format.specs.Tests.{when}
 use Rattle.members.proofs.times_test.Goals as goal
 

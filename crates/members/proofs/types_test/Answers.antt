@@ -3,7 +3,6 @@ use mathlib.Core.Path.{◌≡◌}
 use mathlib.Core.Bool.{true}
 use lib.Dec.{eqb}
 use borrow.Author.Tests.{eq-eqb, ne_eqb}
-use Rattle.format.specs.declared.Set.{Set}
 use Rattle.format.specs.Tests.{when}
 use Rattle.members.proofs.types_test.Goals as goal
 

@@ -2,7 +2,7 @@
 use mathlib.Core.List.{List}
 use mathlib.Core.Bool.{Bool}
 use mathlib.Core.Path.{◌≡◌, sym, ap, ◌∙◌}
-use Prim.Native.Nat.{ℕ, ◌+◌, ◌-◌, ◌*◌, ◌≤◌}
+use Prim.Native.Nat.{◌+◌, ◌*◌}
 use native.Mathlib.Omega.{arith}
 use lib.ListN.{length}
 use borrow.Author.Rules.{rules}
@@ -33,11 +33,10 @@ loop-done-preserved c =
     let old-length : length old ≡ 8 * length c.args.dst.now = length-unpack c.args.dst.now in
     let run_length : length run ≡ c.args.n = length-cut c.args.from c.args.n source (omega (arith, source-length)) in
     let piece_is : bits c.least-k.result c.field-v.result ≡ cut c.loop-done.done c.least-k.result run =
-        let place = c.args.from + c.loop-done.done in
+    let place = c.args.from + c.loop-done.done in
     ap (bits c.least-k.result) c.field-v.ensures
     ∙ bits_back c.least-k.result (cut place c.least-k.result source) (length-cut place c.least-k.result source (omega (arith, source-length)))
-    ∙ sym (cut-cut c.loop-done.done c.least-k.result c.args.from c.args.n source (omega arith)) in
-    (
+    ∙ sym (cut-cut c.loop-done.done c.least-k.result c.args.from c.args.n source (omega arith)) in (
       omega arith,
       search rules,
       put_more c.args.to c.loop-done.done c.least-k.result (c.loop-done.done + c.least-k.result) (c.args.to + c.loop-done.done) run old (unpack c.loop-done.dst) _ (omega arith) (omega arith)

@@ -1,17 +1,8 @@
 -- `puts::copy_bits`: the loop has put the first `done` bits of the run. Assumes nothing.
-use mathlib.Core.List.{List}
-use mathlib.Core.Bool.{Bool}
-use mathlib.Core.Path.{◌≡◌, sym, ap, ◌∙◌}
-use Prim.Native.Nat.{ℕ, ◌+◌, ◌-◌, ◌*◌, ◌≤◌}
-use native.Mathlib.Omega.{arith}
+use mathlib.Core.Path.{◌≡◌}
+use Prim.Native.Nat.{◌-◌, ◌≤◌}
 use lib.ListN.{length}
-use borrow.Author.Rules.{rules}
-use Rattle.bits.specs.Bits.{bits, unpack, true_bits, cut, put}
-use Rattle.bits.proofs.Numbers.{number-cut-lt, bits_back}
-use Rattle.bits.proofs.Lists.{length-cut, cut-cut}
-use Rattle.bits.proofs.Bytes.{length-unpack}
-use Rattle.bits.proofs.Phases.{length_true}
-use Rattle.puts.proofs.Writing.{put_first, put_more, put_last}
+use Rattle.bits.specs.Bits.{unpack, true_bits, cut, put}
 use Rattle.puts.proofs.copy_bits.Given as goal
 
 abbrev pub invariant-loop-done : goal.invariant-loop-done

@@ -22,14 +22,14 @@ unfolding filled
 returns c =
     let run : List Bool = cut c.args.from c.args.n (true_bits c.args.phase c.args.src.now) in
     let run_length : length run ≡ c.args.n =
-        let a = c.args in
+    let a = c.args in
     length-cut a.from a.n (true_bits a.phase a.src.now) (omega (arith, length_true a.phase a.src.now)) in
     let rest : ℕ = (8 - c.args.n % 8) % 8 in
     let run-filled : run ++ bits rest 0 ≡ filled run =
-        let fill : rest ≡ 8 * bytes_for (length run) - length run = rw run_length (omega arith) in
+    let fill : rest ≡ 8 * bytes_for (length run) - length run = rw run_length (omega arith) in
     ap (λ (l : List Bool). run ++ l) (bits-zero rest ∙ ap zeros fill) in
     let put-once : unpack c.put_field.new.part ≡ put 0 (filled run) (unpack c.args.dst.now) =
-        let n = c.args.n in
+    let n = c.args.n in
     c.put_field.ensures ∙ ap (put n (bits rest 0)) c.copy_bits.ensures
     ∙ put_join 0 n run (bits rest 0) (unpack c.args.dst.now) (omega (arith, run_length))
     (omega (arith, run_length, length-bits rest 0, length-unpack c.args.dst.now))

@@ -2,10 +2,10 @@
 use mathlib.Core.Bool.{Bool}
 use mathlib.Core.List.{List}
 use mathlib.Core.Path.{◌≡◌, refl, sym, ap, ap₂, ◌∙◌}
-use Prim.Native.Nat.{ℕ, ◌+◌, ◌-◌, ◌*◌, ◌≤◌}
+use Prim.Native.Nat.{ℕ, ◌-◌, ◌*◌}
 use native.Mathlib.Nat.{add-zero, mod-lt}
 use native.Mathlib.Omega.{arith}
-use lib.ListN.{length, length-set}
+use lib.ListN.{length-set}
 use lib.Pow.{pow_pos}
 use borrow.Author.Rules.{rules}
 use Rattle.bits.specs.Bits.{bits, unpack, put}
@@ -18,8 +18,7 @@ loop-left-init c = (search rules, search rules, search rules, refl)
 
 pub loop-left-preserved : goal.loop-left-preserved
 loop-left-preserved c =
-    let all : List Bool = unpack c.loop-left.part in
-    (
+    let all : List Bool = unpack c.loop-left.part in (
       search rules,
       search rules,
       simp length-set (omega arith),

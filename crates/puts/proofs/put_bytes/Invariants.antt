@@ -1,16 +1,8 @@
 -- `puts::put_bytes`: the bits that are left, put, are all of them put at first. Assumes nothing.
-use mathlib.Core.Bool.{Bool}
-use mathlib.Core.List.{List}
-use mathlib.Core.Path.{◌≡◌, refl, sym, ap, ap₂, ◌∙◌}
-use Prim.Native.Nat.{ℕ, ◌+◌, ◌-◌, ◌*◌, ◌≤◌}
-use native.Mathlib.Nat.{add-zero, mod-lt}
-use native.Mathlib.Omega.{arith}
-use lib.ListN.{length, length-set}
-use lib.Pow.{pow_pos}
-use borrow.Author.Rules.{rules}
+use mathlib.Core.Path.{◌≡◌}
+use Prim.Native.Nat.{◌+◌, ◌*◌, ◌≤◌}
+use lib.ListN.{length}
 use Rattle.bits.specs.Bits.{bits, unpack, put}
-use Rattle.bits.proofs.Lists.{put_none}
-use Rattle.puts.proofs.Writing.{low_bits, put_byte}
 use Rattle.puts.proofs.put_bytes.Given as goal
 
 abbrev pub invariant-loop-left : goal.invariant-loop-left

@@ -1,5 +1,4 @@
 -- `ranges::all_ranges`: each limit is a turn of the test, from the last to the first. Assumes nothing.
-use borrow.Author.Rules.{rules}
 use Rattle.ranges.proofs.Laws.{ranges_limit}
 use Rattle.ranges.proofs.all_ranges.Goals as goal
 

@@ -4,7 +4,6 @@ use lib.IntN.{pos}
 use lib.ListN.{get_or}
 use mir.Facts.{to_z-of_z}
 use mir.Syntax.{w64}
-use borrow.Author.Rules.{rules}
 use Rattle.format.specs.Tests.{◌then◌}
 use Rattle.format.specs.Records.{field_tests}
 use Rattle.ranges.proofs.field_tests.Goals as goal

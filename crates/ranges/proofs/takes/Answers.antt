@@ -1,7 +1,6 @@
 -- `ranges::takes`: by the place's width, and by its range. Assumes nothing.
 use mir.Facts.{to_z-of_z}
 use mir.Syntax.{w64}
-use borrow.Author.Rules.{rules}
 use borrow.Author.Tests.{eq-eqb, ne_eqb}
 use Rattle.ranges.proofs.takes.Goals as goal
 

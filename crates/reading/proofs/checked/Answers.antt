@@ -2,9 +2,6 @@
 use mathlib.Core.Path.{◌≡◌, ◌∙◌}
 use mathlib.Core.Bool.{Bool}
 use mathlib.Core.List.{List}
-use Prim.Native.Nat.{ℕ}
-use borrow.Author.Rules.{rules}
-use borrow.Author.Tests.{not-true, not-false}
 use Rattle.bits.specs.Bits.{true_bits}
 use Rattle.format.proofs.Agree.{check_seen}
 use Rattle.format.specs.declared.Answer.{Answer}
@@ -24,7 +21,7 @@ pub returns-then-not-check_passes : goal.returns-then-not-check_passes
 returns-then-not-check_passes c =
     let u : List Bool = true_bits c.args.phase c.args.part.now in
     let check_is_lem : c.check_passes.result ≡ check_passes u c.args.offset =
-        check_seen u c.args.offset _ c.requires.1 c.requires.2 c.check_passes.ensures in
+    check_seen u c.args.offset _ c.requires.1 c.requires.2 c.check_passes.ensures in
     c.refused.ensures ∙ check_fails u c.args.offset _ check_is_lem c.if-not-check_passes.true
 
 pub decoded-content-requires : goal.decoded-content-requires
@@ -34,16 +31,16 @@ pub returns-in-Refused : goal.returns-in-Refused
 returns-in-Refused c =
     let u : List Bool = true_bits c.args.phase c.args.part.now in
     let check_is_lem : c.check_passes.result ≡ check_passes u c.args.offset =
-        check_seen u c.args.offset _ c.requires.1 c.requires.2 c.check_passes.ensures in
+    check_seen u c.args.offset _ c.requires.1 c.requires.2 c.check_passes.ensures in
     let tests : (b : Answer) → c.field_tests-tested.result ≡ b → beside b c.decoded-content.result ≡ checked u c.args.offset c.args.place =
-        λ b e. fields_tested u c.args.offset _ check_is_lem b c.if-not-check_passes.false c.decoded-content.ensures c.field_tests-tested.ensures e in
+    λ b e. fields_tested u c.args.offset _ check_is_lem b c.if-not-check_passes.false c.decoded-content.ensures c.field_tests-tested.ensures e in
     c.refused-in-Refused.ensures ∙ tests (Refused _) c.in-Refused.is
 
 pub returns-in-Passed : goal.returns-in-Passed
 returns-in-Passed c =
     let u : List Bool = true_bits c.args.phase c.args.part.now in
     let check_is_lem : c.check_passes.result ≡ check_passes u c.args.offset =
-        check_seen u c.args.offset _ c.requires.1 c.requires.2 c.check_passes.ensures in
+    check_seen u c.args.offset _ c.requires.1 c.requires.2 c.check_passes.ensures in
     let tests : (b : Answer) → c.field_tests-tested.result ≡ b → beside b c.decoded-content.result ≡ checked u c.args.offset c.args.place =
-        λ b e. fields_tested u c.args.offset _ check_is_lem b c.if-not-check_passes.false c.decoded-content.ensures c.field_tests-tested.ensures e in
+    λ b e. fields_tested u c.args.offset _ check_is_lem b c.if-not-check_passes.false c.decoded-content.ensures c.field_tests-tested.ensures e in
     tests Passed c.in-Passed.is

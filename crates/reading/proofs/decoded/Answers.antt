@@ -5,7 +5,6 @@ use mathlib.Core.List.{List}
 use Prim.Native.Nat.{ℕ, ◌+◌, ◌*◌, ◌≤◌}
 use native.Mathlib.Omega.{arith}
 use lib.ListN.{length, replicate}
-use borrow.Author.Rules.{rules}
 use Rattle.bits.proofs.Phases.{length_true}
 use Rattle.bits.specs.Bits.{true_bits, cut, put, pack}
 use Rattle.format.proofs.Agree.{length_unit}
@@ -31,20 +30,20 @@ overflow_add-to c =
 pub overflow_sub-to : goal.overflow_sub-to
 overflow_sub-to c =
     let filled : 50 + total (places_of c.args.kind) + c.raw_count-n.result + c.check_count.result ≡ c.args.long =
-        omega (arith, string-filled c.args.kind, c.raw_count-n.ensures, c.check_count.ensures, c.requires.2) in
+    omega (arith, string-filled c.args.kind, c.raw_count-n.ensures, c.check_count.ensures, c.requires.2) in
     omega (arith, filled)
 
 pub overflow_sub-to-2 : goal.overflow_sub-to-2
 overflow_sub-to-2 c =
     let filled : 50 + total (places_of c.args.kind) + c.raw_count-n.result + c.check_count.result ≡ c.args.long =
-        omega (arith, string-filled c.args.kind, c.raw_count-n.ensures, c.check_count.ensures, c.requires.2) in
+    omega (arith, string-filled c.args.kind, c.raw_count-n.ensures, c.check_count.ensures, c.requires.2) in
     omega (arith, filled)
 
 pub numbers_at-fields-requires : goal.numbers_at-fields-requires
 numbers_at-fields-requires c =
     let room : c.args.offset + c.args.long ≤ 8 * length c.args.part.now = omega (arith, c.requires.0.last) in
     let filled : 50 + total (places_of c.args.kind) + c.raw_count-n.result + c.check_count.result ≡ c.args.long =
-        omega (arith, string-filled c.args.kind, c.raw_count-n.ensures, c.check_count.ensures, c.requires.2) in
+    omega (arith, string-filled c.args.kind, c.raw_count-n.ensures, c.check_count.ensures, c.requires.2) in
     (omega (arith, filled), omega (arith, filled, room))
 
 pub raw_at-raw-requires : goal.raw_at-raw-requires
@@ -53,8 +52,7 @@ raw_at-raw-requires c =
     let short : c.args.long ≤ 375 = omega (arith, c.requires.2, length_unit c.args.kind) in
     let room : c.args.offset + c.args.long ≤ 8 * length c.args.part.now = omega (arith, c.requires.0.last) in
     let filled : 50 + total (places_of c.args.kind) + c.raw_count-n.result + c.check_count.result ≡ c.args.long =
-        omega (arith, string-filled c.args.kind, c.raw_count-n.ensures, c.check_count.ensures, c.requires.2) in
-    (
+    omega (arith, string-filled c.args.kind, c.raw_count-n.ensures, c.check_count.ensures, c.requires.2) in (
       omega (arith, raw_few c.args.kind, c.raw_count-n.ensures),
       omega (arith, filled, room),
       omega
@@ -67,7 +65,7 @@ returns c =
     let bits : length u ≡ 8 * length c.args.part.now = length_true c.args.phase c.args.part.now in
     let room : c.args.offset + c.args.long ≤ 8 * length c.args.part.now = omega (arith, c.requires.0.last) in
     let inside : c.args.offset + length_of (type_at u c.args.offset) ≤ length u =
-        omega (arith, room, c.requires.2, ap length_of c.requires.1, bits) in
+    omega (arith, room, c.requires.2, ap length_of c.requires.1, bits) in
     decoded_is u c.args.offset inside _ c.field-service.ensures _ _ _ _ c.requires.1 c.numbers_at-fields.ensures.numbers
     c.numbers_at-fields.ensures.mark
     (c.raw_at-raw.ensures ∙ ap (λ (m : ℕ). put 0 (pack (cut (c.args.offset + 50) m u)) (replicate raw_bytes 0)) c.raw_count-n.ensures)

@@ -3,7 +3,6 @@ use mathlib.Core.Bool.{Bool}
 use mathlib.Core.List.{List}
 use mathlib.Core.Path.{sym, ap, ◌∙◌}
 use lib.ListN.{replicate}
-use borrow.Author.Rules.{rules}
 use Rattle.bits.proofs.Lists.{cut_none, put_none}
 use Rattle.bits.specs.Bits.{true_bits, put, pack, filled}
 use Rattle.format.specs.Records.{raw_bytes}

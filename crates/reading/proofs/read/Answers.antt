@@ -1,10 +1,8 @@
 -- `reading::read`: a refusal of the bit count or the place, or the string's reading. Assumes nothing.
 use mathlib.Core.Path.{sym, ◌∙◌}
-use mathlib.Core.List.{List}
 use Prim.Native.Nat.{ℕ, ◌≤◌, ◌<◌}
 use native.Mathlib.Omega.{arith}
 use lib.ListN.{get_or}
-use borrow.Author.Rules.{rules}
 use Rattle.format.specs.Tests.{Passes}
 use Rattle.format.proofs.Tests.{place-passes}
 use Rattle.reading.proofs.Chain.{place-refuses, place-passes-on, promised}
@@ -13,7 +11,7 @@ use Rattle.reading.proofs.read.Goals as goal
 pub read_string-requires : goal.read_string-requires
 read_string-requires c =
     let inside : Passes c.args.rec.now c.args.count × (c.args.place ≤ c.args.count) =
-        place-passes _ _ _ (sym c.place_tests-early.ensures ∙ c.in-Passed.is) in
+    place-passes _ _ _ (sym c.place_tests-early.ensures ∙ c.in-Passed.is) in
     (inside.0, omega (arith, inside.1))
 
 pub returns-in-Refused : goal.returns-in-Refused

@@ -1,6 +1,5 @@
 -- `reading::refused`. Assumes nothing.
 use mathlib.Core.Path.{refl}
-use borrow.Author.Rules.{rules}
 use Rattle.reading.proofs.refused.Goals as goal
 
 pub returns : goal.returns

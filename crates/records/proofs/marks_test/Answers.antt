@@ -1,6 +1,5 @@
 -- `records::marks_test`: no bit strays where none is set. Assumes nothing.
 use mathlib.Core.Path.{sym}
-use borrow.Author.Rules.{rules}
 use Rattle.records.proofs.Tests.{stray-done}
 use Rattle.records.proofs.marks_test.Goals as goal
 

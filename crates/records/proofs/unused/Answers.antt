@@ -2,8 +2,8 @@
 use mathlib.Core.Path.{◌≡◌, refl, ◌∙◌}
 use mathlib.Core.Bool.{true, false}
 use mathlib.Core.List.{List}
-use Prim.Native.Nat.{ℕ, ◌+◌, ◌-◌, ◌≤◌, ◌<◌}
-use lib.IntN.{ℤ, pos}
+use Prim.Native.Nat.{◌+◌, ◌<◌}
+use lib.IntN.{pos}
 use lib.ListN.{length, drop, get_or}
 use mir.Facts.{to_z-of_z}
 use mir.Syntax.{w64}
@@ -24,9 +24,9 @@ returns-then-misplaced c =
     let below : c.loop-i.i < places = search rules in
     let long : length c.args.numbers ≡ places = search rules in
     let number : to_z w64 (of_z w64 (get_or c.args.numbers c.loop-i.i (pos 0))) ≡ get_or c.args.numbers c.loop-i.i (pos 0) =
-        to_z-of_z {w = w64} (record { sfits = c.misplaced-arg-1.given }) in
+    to_z-of_z {w = w64} (record { sfits = c.misplaced-arg-1.given }) in
     let finds : c.misplaced.result ≡ true → true ≡ unused fields c.args.numbers =
-        λ e. unused_found _ c.loop-i.i c.args.numbers c.widths_of-widths.ensures below long number c.misplaced.ensures e ∙ c.loop-i.invariant.1 in
+    λ e. unused_found _ c.loop-i.i c.args.numbers c.widths_of-widths.ensures below long number c.misplaced.ensures e ∙ c.loop-i.invariant.1 in
     finds c.if-misplaced.true
 
 pub loop-i-preserved : goal.loop-i-preserved
@@ -35,9 +35,9 @@ loop-i-preserved c =
     let below : c.loop-i.i < places = search rules in
     let long : length c.args.numbers ≡ places = search rules in
     let number : to_z w64 (of_z w64 (get_or c.args.numbers c.loop-i.i (pos 0))) ≡ get_or c.args.numbers c.loop-i.i (pos 0) =
-        to_z-of_z {w = w64} (record { sfits = c.misplaced-arg-1.given }) in
+    to_z-of_z {w = w64} (record { sfits = c.misplaced-arg-1.given }) in
     let goes_on : c.misplaced.result ≡ false → unused (drop (c.loop-i.i + 1) fields) (drop (c.loop-i.i + 1) c.args.numbers) ≡ unused fields c.args.numbers =
-        λ e. unused-next _ c.loop-i.i c.args.numbers c.widths_of-widths.ensures below long number c.misplaced.ensures e ∙ c.loop-i.invariant.1 in
+    λ e. unused-next _ c.loop-i.i c.args.numbers c.widths_of-widths.ensures below long number c.misplaced.ensures e ∙ c.loop-i.invariant.1 in
     (search rules, goes_on c.if-misplaced.false)
 
 pub returns : goal.returns

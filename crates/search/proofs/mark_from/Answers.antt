@@ -1,9 +1,8 @@
 -- `search::mark_from`: no place from `from` to below p has the mark. Assumes nothing.
-use Prim.Native.Nat.{◌-◌, ◌≤◌}
 use native.Mathlib.Omega.{arith}
 use borrow.Author.Rules.{rules}
 use Rattle.bits.specs.Bits.{recorded}
-use Rattle.search.proofs.Searching.{MarkFree, free_none, free_more, next_here, next-end}
+use Rattle.search.proofs.Searching.{free_none, free_more, next_here, next-end}
 use Rattle.search.proofs.mark_from.Goals as goal
 
 pub loop-p-init : goal.loop-p-init

@@ -1,9 +1,7 @@
 -- `search::mark_from`: no place from `from` to below p has the mark. Assumes nothing.
 use Prim.Native.Nat.{◌-◌, ◌≤◌}
-use native.Mathlib.Omega.{arith}
-use borrow.Author.Rules.{rules}
 use Rattle.bits.specs.Bits.{recorded}
-use Rattle.search.proofs.Searching.{MarkFree, free_none, free_more, next_here, next-end}
+use Rattle.search.proofs.Searching.{MarkFree}
 use Rattle.search.proofs.mark_from.Given as goal
 
 abbrev pub invariant-loop-p : goal.invariant-loop-p

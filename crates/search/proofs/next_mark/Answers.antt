@@ -2,8 +2,7 @@
 use mathlib.Core.Path.{sym, subst}
 use mathlib.Core.Bool.{Bool}
 use mathlib.Core.List.{List}
-use mathlib.Core.Logic.{⊎_elim}
-use Prim.Native.Nat.{ℕ, ◌+◌, ◌-◌, ◌*◌, ◌/◌, ◌%◌, ◌^◌, ◌≤◌}
+use Prim.Native.Nat.{ℕ, ◌-◌, ◌*◌, ◌%◌, ◌^◌, ◌≤◌}
 use native.Mathlib.Nat.{mod-lt}
 use native.Mathlib.Omega.{arith}
 use lib.Count.{leading_le}
@@ -30,7 +29,7 @@ returns-then-hits-ne0 c =
     let all : List Bool = recorded c.args.phase c.args.rec.now c.args.count in
     let shown : ℕ = c.marks.result * 2 ^ (c.args.from % 8) % 2 ^ 64 in
     let here : Hits all c.args.from (53 - c.args.from % 8) shown =
-        let a = c.args in
+    let a = c.args in
     hits_at a.phase a.rec.now a.count c.requires.1 c.args.from _ _ (omega arith)
     c.word_at.ensures c.marks.ensures in
     hits_first all c.args.from _ _ here c.if-hits-ne0.true (mod-lt _ (pow_pos 64))
@@ -40,7 +39,7 @@ loop-i-init c =
     let all : List Bool = recorded c.args.phase c.args.rec.now c.args.count in
     let shown : ℕ = c.marks.result * 2 ^ (c.args.from % 8) % 2 ^ 64 in
     let here : Hits all c.args.from (53 - c.args.from % 8) shown =
-        let a = c.args in
+    let a = c.args in
     hits_at a.phase a.rec.now a.count c.requires.1 c.args.from _ _ (omega arith)
     c.word_at.ensures c.marks.ensures in
     (omega arith, omega arith, hits_none all c.args.from _ _ here _ c.if-hits-ne0.false (omega arith) (omega arith))
@@ -55,7 +54,7 @@ pub returns-then-hits-ne0-2 : goal.returns-then-hits-ne0-2
 returns-then-hits-ne0-2 c =
     let all : List Bool = recorded c.args.phase c.args.rec.now c.args.count in
     let there : Hits all (8 * c.loop-i.i) 53 c.marks-hits.result =
-        let a = c.args in
+    let a = c.args in
     hits_word a.phase a.rec.now a.count c.requires.1 (8 * c.loop-i.i) _ _ (omega arith)
     c.word_at-in-loop-i.ensures c.marks-hits.ensures in
     let l = c.loop-i in
@@ -66,7 +65,7 @@ pub loop-i-preserved : goal.loop-i-preserved
 loop-i-preserved c =
     let all : List Bool = recorded c.args.phase c.args.rec.now c.args.count in
     let there : Hits all (8 * c.loop-i.i) 53 c.marks-hits.result =
-        let a = c.args in
+    let a = c.args in
     hits_word a.phase a.rec.now a.count c.requires.1 (8 * c.loop-i.i) _ _ (omega arith)
     c.word_at-in-loop-i.ensures c.marks-hits.ensures in
     let l = c.loop-i in (
@@ -79,25 +78,25 @@ loop-i-preserved c =
 pub mark_from-requires : goal.mark_from-requires
 mark_from-requires c =
     let Free : ℕ → Type 0 =
-        λ p. let a = c.args in
+    λ p. let a = c.args in
     (a.from ≤ p) × (p ≤ a.count) × MarkFree (recorded a.phase a.rec.now a.count) a.from p in
     let come : Free c.if-from-count.p =
-        elim c.if-from-count.branch [
-          then-from-count+else-hits-ne0+else-loop-i-test w ↦
-            let v = w.loop-i.invariant in subst Free (sym w.p-is) (omega (arith, v.0), v.1, v.2)
-        | else-from-count w ↦ subst Free (sym w.p-is) (omega arith, c.requires.2, free_none _ _)
-        ] in
+    elim c.if-from-count.branch [
+      | then-from-count+else-hits-ne0+else-loop-i-test w ↦
+          let v = w.loop-i.invariant in subst Free (sym w.p-is) (omega (arith, v.0), v.1, v.2)
+      | else-from-count w ↦ subst Free (sym w.p-is) (omega arith, c.requires.2, free_none _ _)
+    ] in
     (c.requires.0, c.requires.1, come.1)
 
 pub returns : goal.returns
 returns c =
     let Free : ℕ → Type 0 =
-        λ p. let a = c.args in
+    λ p. let a = c.args in
     (a.from ≤ p) × (p ≤ a.count) × MarkFree (recorded a.phase a.rec.now a.count) a.from p in
     let come : Free c.if-from-count.p =
-        elim c.if-from-count.branch [
-          then-from-count+else-hits-ne0+else-loop-i-test w ↦
-            let v = w.loop-i.invariant in subst Free (sym w.p-is) (omega (arith, v.0), v.1, v.2)
-        | else-from-count w ↦ subst Free (sym w.p-is) (omega arith, c.requires.2, free_none _ _)
-        ] in
+    elim c.if-from-count.branch [
+      | then-from-count+else-hits-ne0+else-loop-i-test w ↦
+          let v = w.loop-i.invariant in subst Free (sym w.p-is) (omega (arith, v.0), v.1, v.2)
+      | else-from-count w ↦ subst Free (sym w.p-is) (omega arith, c.requires.2, free_none _ _)
+    ] in
     next-on _ _ c.if-from-count.p _ come.2 come.0 c.mark_from.ensures

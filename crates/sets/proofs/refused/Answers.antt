@@ -1,6 +1,5 @@
 -- `sets::refused`. Assumes nothing.
 use mathlib.Core.Path.{refl}
-use borrow.Author.Rules.{rules}
 use Rattle.sets.proofs.refused.Goals as goal
 
 pub returns : goal.returns

@@ -1,6 +1,5 @@
 -- `signs::is_minus_zero`: minus zero is the one field with this number. Assumes nothing.
 use native.Mathlib.Omega.{arith}
-use borrow.Author.Rules.{rules}
 use Rattle.signs.proofs.Signs.{minus_zero_is}
 use Rattle.signs.proofs.is_minus_zero.Goals as goal
 

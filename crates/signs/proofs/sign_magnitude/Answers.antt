@@ -1,6 +1,5 @@
 -- `signs::sign_magnitude`: the sign bit stands above the magnitude. Assumes nothing.
 use mathlib.Core.Bool.{Bool, ◌||◌, or-true}
-use mathlib.Core.Logic.{⊎_elim}
 use mathlib.Core.Path.{sym, ap, ap₂, ◌∙◌, subst}
 use Prim.Native.Nat.{◌<◌, ◌^◌}
 use native.Mathlib.Nat.{lt_of_lt_of_le}
@@ -10,7 +9,6 @@ use lib.Signed.{lt_z}
 use lib.IntN.{ℤ, pos, nat_abs}
 use mir.Facts.{to_z-of_z}
 use mir.Syntax.{w64}
-use borrow.Author.Rules.{rules}
 use Rattle.bits.specs.Signed.{is_negative}
 use Rattle.signs.proofs.Signs.{is_negative_lem, field-minus, field-plus}
 use Rattle.signs.proofs.sign_magnitude.Goals as goal
@@ -27,10 +25,10 @@ returns-then-value-lt0 c =
     let e = to_z-of_z {w = w64} c.ranges.value in
     field-minus c.args.width z c.args.minus _ (omega arith) (omega arith) c.requires.2 (c.size-magnitude.ensures ∙ ap nat_abs e)
     (elim c.then-value-lt0.branch [
-      then-value-lt0-via-then-value-lt0 w ↦
-        ap (λ (t : Bool). t || c.args.minus) (is_negative_lem z ∙ ap (λ (y : ℤ). lt_z y (pos 0)) (sym e) ∙ w.if-value-lt0.true)
-    | then-value-lt0-via-else-value-lt0+then-minus w ↦
-        ap (λ (t : Bool). is_negative z || t) w.if-minus.true ∙ or-true (is_negative z)
+      | then-value-lt0-via-then-value-lt0 w ↦
+          ap (λ (t : Bool). t || c.args.minus) (is_negative_lem z ∙ ap (λ (y : ℤ). lt_z y (pos 0)) (sym e) ∙ w.if-value-lt0.true)
+      | then-value-lt0-via-else-value-lt0+then-minus w ↦
+          ap (λ (t : Bool). is_negative z || t) w.if-minus.true ∙ or-true (is_negative z)
     ])
 
 pub returns : goal.returns

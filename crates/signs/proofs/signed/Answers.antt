@@ -3,7 +3,6 @@ use native.Mathlib.Omega.{arith}
 use lib.IntN.{pos}
 use mir.Facts.{to_z_pos}
 use mir.Syntax.{w64}
-use borrow.Author.Rules.{rules}
 use Rattle.signs.proofs.Signs.{low_small, minus-fits, plus_is, minus_of}
 use Rattle.signs.proofs.signed.Goals as goal
 

@@ -1,11 +1,7 @@
 -- `text::put_bytes`: the loop has written the first i bytes. Assumes nothing.
-use mathlib.Core.List.{List}
-use mathlib.Core.Path.{◌≡◌}
-use Prim.Native.Nat.{ℕ, ◌+◌, ◌-◌, ◌≤◌}
 use native.Mathlib.Omega.{arith}
-use lib.ListN.{length, length-set, take}
+use lib.ListN.{length-set}
 use borrow.Author.Rules.{rules}
-use Rattle.text.specs.Text.{Wrote}
 use Rattle.text.proofs.Writing.{bytes_none, bytes_more, bytes_all}
 use Rattle.text.proofs.put_bytes.Goals as goal
 

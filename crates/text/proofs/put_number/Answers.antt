@@ -6,7 +6,7 @@ use native.Mathlib.Omega.{arith}
 use lib.ListN.{length-set, take, drop, set}
 use borrow.Author.Rules.{rules}
 use Rattle.text.specs.Text.{numeral, number_most}
-use Rattle.text.proofs.Writing.{Filled, filled-end, filled_more, filled_all}
+use Rattle.text.proofs.Writing.{filled-end, filled_more, filled_all}
 use Rattle.text.proofs.put_number.Goals as goal
 
 pub loop-rest-init : goal.loop-rest-init
@@ -24,6 +24,6 @@ pub returns : goal.returns
 returns c =
     let i : ℕ = c.loop-rest.i - 1 in
     let whole : take (number_most - i) (drop i (set c.loop-rest.text i c.digit-2.result)) ≡ numeral c.args.n ++ (c.args.end ∷ []) =
-        let l = c.loop-rest in
+    let l = c.loop-rest in
     filled_all c.args.n c.args.end l.text l.i l.rest _ l.invariant i (omega arith) (omega arith) c.digit-2.ensures in
     rw whole at c.put_bytes.ensures

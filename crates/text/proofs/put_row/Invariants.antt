@@ -1,12 +1,9 @@
 -- `text::put_row`: the loop has written the first i numbers of the row. Assumes nothing.
-use mathlib.Core.List.{List}
 use mathlib.Core.Path.{◌≡◌}
-use Prim.Native.Nat.{ℕ, ◌-◌, ◌≤◌}
-use native.Mathlib.Omega.{arith}
+use Prim.Native.Nat.{◌-◌, ◌≤◌}
 use lib.ListN.{length}
-use borrow.Author.Rules.{rules}
 use Rattle.text.specs.Text.{row_numbers}
-use Rattle.text.proofs.Writing.{RowSoFar, row_none, row_more, row_all}
+use Rattle.text.proofs.Writing.{RowSoFar}
 use Rattle.text.proofs.put_row.Given as goal
 
 abbrev pub invariant-loop-i : goal.invariant-loop-i

@@ -1,5 +1,4 @@
 -- `types::check`: the number of the generator that the type has. Assumes nothing.
-use borrow.Author.Rules.{rules}
 use Rattle.types.proofs.Cases.{number_two, number_other, check_by}
 use Rattle.types.proofs.check.Goals as goal
 

@@ -1,6 +1,5 @@
 -- `types::check_passes`: the table and the number of the generator that the type has. Assumes nothing.
 use native.Mathlib.Omega.{arith}
-use borrow.Author.Rules.{rules}
 use Rattle.types.proofs.Cases.{number_two, number_other, by_generator, covered-run}
 use Rattle.types.proofs.check_passes.Goals as goal
 

@@ -1,7 +1,6 @@
 -- `types::widths_of`: each line of the table is computed from the type's fields. Assumes nothing.
 use native.Mathlib.Omega.{arith}
 use mathlib.Core.Path.{refl}
-use borrow.Author.Rules.{rules}
 use borrow.Author.Tests.{ne_eqb}
 use Rattle.format.specs.Types.{places_of}
 use Rattle.types.proofs.widths_of.Goals as goal

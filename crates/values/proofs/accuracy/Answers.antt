@@ -11,8 +11,7 @@ use lib.Signed.{le_z}
 use mir.Facts.{to_z-of_z}
 use mir.Syntax.{w64}
 use mir.Val.{SFits, to_z, of_z}
-use borrow.Author.Rules.{rules}
-use borrow.Author.Tests.{not-true, not-false, leb-true, le-ltb}
+use borrow.Author.Tests.{leb-true, le-ltb}
 use Rattle.format.specs.declared.Outcome.TheVariants.{Given, NotGiven}
 use Rattle.format.specs.declared.Refusal.TheVariants.{OutOfRange}
 use Rattle.format.specs.Fields.{in_range}

@@ -9,8 +9,6 @@ use lib.Signed.{le_z, non_neg}
 use mir.Facts.{to_z-of_z}
 use mir.Syntax.{w64}
 use mir.Val.{SFits, to_z, of_z}
-use borrow.Author.Rules.{rules}
-use borrow.Author.Tests.{not-true, not-false}
 use Rattle.format.specs.declared.Outcome.TheVariants.{Given, NotGiven}
 use Rattle.format.specs.declared.Refusal.TheVariants.{OutOfRange}
 use Rattle.format.specs.Fields.{in_range}
@@ -30,15 +28,18 @@ module _ (n4 nt : ℤ) where
   no-interval : is_interval n4 ≡ false → NotGiven (OutOfRange 10) ≡ day_count n4 nt
   unfolding day_count ranges in_range
   no-interval e = rw e
+
   no-day : is_interval n4 ≡ true → is_day nt ≡ false → NotGiven (OutOfRange 11) ≡ day_count n4 nt
   unfolding day_count ranges in_range
   no-day e f = rw (e, f)
+
   counted : is_interval n4 ≡ true → is_day nt ≡ true → Given (1461 * (nat_abs n4 - 1) + nat_abs nt - 1) ≡ day_count n4 nt
   unfolding day_count ranges in_range
   counted e f = rw (e, f)
 
 abbrev cast : ℤ → ℕ
 cast z = nat_abs (to_z w64 (of_z w64 z))
+
 record Cast (z : ℤ) (b : ℕ) : Type 0 where
   same : cast z ≡ nat_abs z
   plus : T (non_neg (to_z w64 (of_z w64 z)))

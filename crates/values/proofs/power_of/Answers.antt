@@ -2,7 +2,6 @@
 use mathlib.Core.Path.{◌≡◌, sym, ap, ◌∙◌}
 use Prim.Native.Nat.{◌+◌, ◌-◌}
 use native.Mathlib.Omega.{arith}
-use borrow.Author.Rules.{rules}
 use Rattle.format.specs.Values.{power_of}
 use Rattle.types.proofs.Table.{power_at as row-power}
 use Rattle.values.proofs.Fields.{power_early, power_at, power-past}

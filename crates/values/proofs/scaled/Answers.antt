@@ -29,13 +29,16 @@ module _ (r : Record) (n : ℕ) where
   refused-record : (a : Refusal) → record_tests r ≡ Refused a → NoValue a ≡ scaling r n
   unfolding scaling ◌then◌
   refused-record a e = rw e
+
   module _ (e : record_tests r ≡ Passed) where
     refused-number : power_of r.kind n ≡ 0 → NoValue (OutOfRange n) ≡ scaling r n
     unfolding scaling when ◌then◌
     refused-number z = rw (e, eq-eqb _ _ z)
+
     given : (power_of r.kind n ≡ 0 → ⊥) → Number (of_bits binary64 (scaled_bits (count_of r n) (power_of r.kind n))) ≡ scaling r n
     unfolding scaling when ◌then◌
     given z = rw (e, ne_eqb _ _ z)
+
   promised : {v : Value} → v ≡ scaling r n → ((x : Float) → v ≡ Number x → IsScaled (count_of r n) (power_of r.kind n) x)
       → ScalePromise r n v
   promised {v} e exact =
@@ -92,7 +95,7 @@ scale-requires c =
     let inside : (10 ≤ c.args.field) × (c.args.field - 10 < places) = powered c.args.r.kind c.args.field power-there in
     let number_at : 10 + (c.args.field - 10) ≡ c.args.field = omega (arith, inside.0) in
     let few : nat_abs (get_or c.args.r.numbers (c.args.field - 10) (pos 0)) < 2 ^ 53 =
-        let l : length c.args.r.numbers ≡ places = search rules in
+    let l : length c.args.r.numbers ≡ places = search rules in
     count_few c.args.r (c.args.field - 10) passed (omega (arith, inside.1)) (λ e. power-there (ap (power_of c.args.r.kind) (sym number_at) ∙ e)) in
     rw (to_z-of_z {w = w64} (record { sfits = c.scale-arg-1.given })) few
 
@@ -109,7 +112,7 @@ returns-else-k-eq0 c =
     let inside : (10 ≤ c.args.field) × (c.args.field - 10 < places) = powered c.args.r.kind c.args.field power-there in
     let number_at : 10 + (c.args.field - 10) ≡ c.args.field = omega (arith, inside.0) in
     let count-is : get_or c.args.r.numbers (c.args.field - 10) (pos 0) ≡ count_of c.args.r c.args.field =
-        sym (count_at c.args.r (c.args.field - 10)) ∙ ap (count_of c.args.r) number_at in
+    sym (count_at c.args.r (c.args.field - 10)) ∙ ap (count_of c.args.r) number_at in
     let z = to_z-of_z {w = w64} (record { sfits = c.scale-arg-1.given }) ∙ count-is in
     let k = c.power_of-k.ensures in
     let is = c.scale.ensures.value ∙ ap₂ (λ (z : ℤ) (k : ℕ). of_bits binary64 (scaled_bits z k)) z k in

@@ -2,7 +2,6 @@
 use mathlib.Core.Bool.{Bool}
 use mathlib.Core.List.{List}
 use mathlib.Core.Path.{sym, ap, ◌∙◌}
-use borrow.Author.Rules.{rules}
 use Rattle.bits.proofs.Lists.{cut_none, put_none}
 use Rattle.bits.specs.Bits.{unpack, put}
 use Rattle.writing.proofs.put_raw.Goals as goal

@@ -1,13 +1,11 @@
 -- `writing::put_string`: each piece joins those before it, and the check bits are those of all bits put so far. Assumes nothing.
 use mathlib.Core.Path.{◌≡◌, ◌∙◌}
-use Prim.Native.Nat.{ℕ, ◌+◌, ◌*◌, ◌≤◌}
+use Prim.Native.Nat.{◌+◌, ◌≤◌}
 use native.Mathlib.Omega.{arith}
 use lib.ListN.{length}
 use borrow.Author.Rules.{rules}
 use Rattle.bits.proofs.Bytes.{length-unpack}
-use Rattle.format.specs.declared.Record.{Record}
 use Rattle.format.specs.Fields.{total}
-use Rattle.format.specs.Strings.{check_bits}
 use Rattle.format.specs.Types.{places_of}
 use Rattle.format.proofs.Information.{string-filled, raw_few}
 use Rattle.format.proofs.Writing.{Typed}
@@ -26,13 +24,13 @@ overflow_add-to c =
     let near : c.args.offset ≤ 7 = omega (arith, c.requires.0) in
     let short : c.args.long ≤ 375 = (length-least _ _ c.requires.1).1 in
     let pieces : 50 + total (places_of c.args.r.kind) + c.raw_count-n.result + c.check_count-degree.result ≡ c.args.long =
-        omega (arith, string-filled c.args.r.kind, c.check_count-degree.ensures, c.raw_count-n.ensures, c.requires.1) in
+    omega (arith, string-filled c.args.r.kind, c.check_count-degree.ensures, c.raw_count-n.ensures, c.requires.1) in
     omega (arith, pieces, short, near)
 
 pub overflow_sub-to : goal.overflow_sub-to
 overflow_sub-to c =
     let pieces : 50 + total (places_of c.args.r.kind) + c.raw_count-n.result + c.check_count-degree.result ≡ c.args.long =
-        omega (arith, string-filled c.args.r.kind, c.check_count-degree.ensures, c.raw_count-n.ensures, c.requires.1) in
+    omega (arith, string-filled c.args.r.kind, c.check_count-degree.ensures, c.raw_count-n.ensures, c.requires.1) in
     omega (arith, pieces)
 
 pub service-requires : goal.service-requires
@@ -45,14 +43,14 @@ pub put_field-requires : goal.put_field-requires
 put_field-requires c =
     let near : c.args.offset ≤ 7 = omega (arith, c.requires.0) in
     let pieces : 50 + total (places_of c.args.r.kind) + c.raw_count-n.result + c.check_count-degree.result ≡ c.args.long =
-        omega (arith, string-filled c.args.r.kind, c.check_count-degree.ensures, c.raw_count-n.ensures, c.requires.1) in
+    omega (arith, string-filled c.args.r.kind, c.check_count-degree.ensures, c.raw_count-n.ensures, c.requires.1) in
     let x = service-lt _ _ c.service.ensures in
     (omega arith, omega arith, omega (arith, pieces, c.requires.2), omega (arith, near))
 
 pub put_numbers-requires : goal.put_numbers-requires
 put_numbers-requires c =
     let pieces : 50 + total (places_of c.args.r.kind) + c.raw_count-n.result + c.check_count-degree.result ≡ c.args.long =
-        omega (arith, string-filled c.args.r.kind, c.check_count-degree.ensures, c.raw_count-n.ensures, c.requires.1) in
+    omega (arith, string-filled c.args.r.kind, c.check_count-degree.ensures, c.raw_count-n.ensures, c.requires.1) in
     record { to_value = (omega (arith, pieces), omega (arith, pieces, c.requires.2)); tested = tested c.args.r c.requires.3 }
 
 pub put_raw-requires : goal.put_raw-requires
@@ -60,7 +58,7 @@ put_raw-requires c =
     let near : c.args.offset ≤ 7 = omega (arith, c.requires.0) in
     let short : c.args.long ≤ 375 = (length-least _ _ c.requires.1).1 in
     let pieces : 50 + total (places_of c.args.r.kind) + c.raw_count-n.result + c.check_count-degree.result ≡ c.args.long =
-        omega (arith, string-filled c.args.r.kind, c.check_count-degree.ensures, c.raw_count-n.ensures, c.requires.1) in
+    omega (arith, string-filled c.args.r.kind, c.check_count-degree.ensures, c.raw_count-n.ensures, c.requires.1) in
     (omega (arith, c.raw_count-n.ensures, raw_few c.args.r.kind), omega (arith, pieces, c.requires.2), omega (arith, pieces, short, near))
 
 pub check-c-requires : goal.check-c-requires
@@ -68,7 +66,7 @@ check-c-requires c =
     let near : c.args.offset ≤ 7 = omega (arith, c.requires.0) in
     let short : c.args.long ≤ 375 = (length-least _ _ c.requires.1).1 in
     let pieces : 50 + total (places_of c.args.r.kind) + c.raw_count-n.result + c.check_count-degree.result ≡ c.args.long =
-        omega (arith, string-filled c.args.r.kind, c.check_count-degree.ensures, c.raw_count-n.ensures, c.requires.1) in
+    omega (arith, string-filled c.args.r.kind, c.check_count-degree.ensures, c.raw_count-n.ensures, c.requires.1) in
     (omega (arith, pieces), omega (arith, pieces, c.requires.2), omega (arith, pieces, short, near))
 
 pub overflow_add-offset-2 : goal.overflow_add-offset-2
@@ -76,7 +74,7 @@ overflow_add-offset-2 c =
     let near : c.args.offset ≤ 7 = omega (arith, c.requires.0) in
     let short : c.args.long ≤ 375 = (length-least _ _ c.requires.1).1 in
     let pieces : 50 + total (places_of c.args.r.kind) + c.raw_count-n.result + c.check_count-degree.result ≡ c.args.long =
-        omega (arith, string-filled c.args.r.kind, c.check_count-degree.ensures, c.raw_count-n.ensures, c.requires.1) in
+    omega (arith, string-filled c.args.r.kind, c.check_count-degree.ensures, c.raw_count-n.ensures, c.requires.1) in
     omega (arith, pieces, short, near)
 
 pub put_field-requires-2 : goal.put_field-requires-2
@@ -85,9 +83,9 @@ put_field-requires-2 c =
     let short : c.args.long ≤ 375 = (length-least _ _ c.requires.1).1 in
     let few : c.check_count-degree.result ≤ 24 = omega (arith, c.check_count-degree.ensures, check_few c.args.r.kind) in
     let pieces : 50 + total (places_of c.args.r.kind) + c.raw_count-n.result + c.check_count-degree.result ≡ c.args.long =
-        omega (arith, string-filled c.args.r.kind, c.check_count-degree.ensures, c.raw_count-n.ensures, c.requires.1) in
+    omega (arith, string-filled c.args.r.kind, c.check_count-degree.ensures, c.raw_count-n.ensures, c.requires.1) in
     let same-room : length c.put_raw.new.part ≡ length c.args.part.now =
-        c.part-3-1.given ∙ c.part-2-1.given
+    c.part-3-1.given ∙ c.part-2-1.given
     ∙ c.part-1.given in
     let p = pieces in
     let f = few in

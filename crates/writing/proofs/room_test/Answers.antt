@@ -1,7 +1,6 @@
 -- `writing::room_test`: by the two cases of the room. Assumes nothing.
 use native.Mathlib.Omega.{arith}
 use borrow.Author.Tests.{lt-ltb, le-ltb}
-use borrow.Author.Rules.{rules}
 use Rattle.format.specs.declared.Refusal.TheVariants.{RunsOut}
 use Rattle.format.proofs.Order.{when_yes, when_no}
 use Rattle.writing.proofs.room_test.Goals as goal

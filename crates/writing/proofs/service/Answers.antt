@@ -1,6 +1,5 @@
 -- `writing::service`: the fields are in their ranges, so the number holds each one's bits. Assumes nothing.
 use native.Mathlib.Omega.{arith}
-use borrow.Author.Rules.{rules}
 use Rattle.format.proofs.Writing.{ranged}
 use Rattle.writing.proofs.Strings.{service-number}
 use Rattle.writing.proofs.service.Goals as goal

@@ -1,12 +1,10 @@
 -- `writing::write`: each return is where the chain of tests ends. Assumes nothing.
 use mathlib.Core.Path.{◌≡◌, sym, ap, ap₂, ◌∙◌}
-use mathlib.Core.List.{List}
 use Prim.Native.Nat.{ℕ, ◌+◌, ◌≤◌}
 use native.Mathlib.Omega.{arith}
 use lib.ListN.{length}
 use borrow.Author.Rules.{rules}
 use Rattle.format.specs.declared.Answer.TheVariants.{Passed, Refused}
-use Rattle.format.specs.declared.Record.{Record}
 use Rattle.format.specs.declared.Refusal.TheVariants.{RunsOut}
 use Rattle.format.specs.Records.{record_tests}
 use Rattle.format.specs.Strings.{length_of}
@@ -22,32 +20,32 @@ returns-in-Refused c = refuses _ _ _ _ _ (place-refuses _ _ _ _ _ _ c.place_test
 pub room_test-requires : goal.room_test-requires
 room_test-requires c =
     let placed : place_tests (length c.args.rec.now) c.args.count c.args.place ≡ Passed =
-        sym c.place_tests-early.ensures ∙ c.in_default.is in
+    sym c.place_tests-early.ensures ∙ c.in_default.is in
     let inside : Passes c.args.rec.now c.args.count × (c.args.place ≤ c.args.count) =
-        place-passes c.args.rec.now c.args.count c.args.place placed in
+    place-passes c.args.rec.now c.args.count c.args.place placed in
     let i = inside in (i.0.short_enough, i.1)
 
 pub returns-in-Refused-late : goal.returns-in-Refused-late
 returns-in-Refused-late c =
     let placed : place_tests (length c.args.rec.now) c.args.count c.args.place ≡ Passed =
-        sym c.place_tests-early.ensures ∙ c.in_default.is in
+    sym c.place_tests-early.ensures ∙ c.in_default.is in
     let late_is : c.first-late.result ≡ later c.args.count c.args.place c.args.r =
-        c.first-late.ensures ∙ ap₂ ◌then◌ c.record_tests-tested.ensures c.room_test.ensures
+    c.first-late.ensures ∙ ap₂ ◌then◌ c.record_tests-tested.ensures c.room_test.ensures
     ∙ ap (λ (l : ℕ). record_tests c.args.r then when (above (c.args.place + l) c.args.count) (RunsOut c.args.place)) c.length_of-long.ensures in
     refuses _ _ _ _ _ (later_answers _ _ _ _ placed (Refused _) (sym late_is ∙ c.in-Refused-late.is))
 
 pub put_at-requires : goal.put_at-requires
 put_at-requires c =
     let placed : place_tests (length c.args.rec.now) c.args.count c.args.place ≡ Passed =
-        sym c.place_tests-early.ensures ∙ c.in_default.is in
+    sym c.place_tests-early.ensures ∙ c.in_default.is in
     let inside : Passes c.args.rec.now c.args.count × (c.args.place ≤ c.args.count) =
-        place-passes c.args.rec.now c.args.count c.args.place placed in
+    place-passes c.args.rec.now c.args.count c.args.place placed in
     let late_is : c.first-late.result ≡ later c.args.count c.args.place c.args.r =
-        c.first-late.ensures ∙ ap₂ ◌then◌ c.record_tests-tested.ensures c.room_test.ensures
+    c.first-late.ensures ∙ ap₂ ◌then◌ c.record_tests-tested.ensures c.room_test.ensures
     ∙ ap (λ (l : ℕ). record_tests c.args.r then when (above (c.args.place + l) c.args.count) (RunsOut c.args.place)) c.length_of-long.ensures in
     let late-passes : later c.args.count c.args.place c.args.r ≡ Passed = sym late_is ∙ c.in_default-late.is in
     let fits : (record_tests c.args.r ≡ Passed) × (c.args.place + length_of c.args.r.kind ≤ c.args.count) =
-        later_says c.args.count c.args.place c.args.r late-passes in
+    later_says c.args.count c.args.place c.args.r late-passes in
     let room : c.args.place + c.length_of-long.result ≤ c.args.count = omega (arith, fits.1, c.length_of-long.ensures) in
     let i = inside.0 in
     (c.length_of-long.ensures, omega (arith, room, i.short_enough), omega (arith, room, i.in_bytes), fits.0)
@@ -55,24 +53,24 @@ put_at-requires c =
 pub overflow_add-next : goal.overflow_add-next
 overflow_add-next c =
     let placed : place_tests (length c.args.rec.now) c.args.count c.args.place ≡ Passed =
-        sym c.place_tests-early.ensures ∙ c.in_default.is in
+    sym c.place_tests-early.ensures ∙ c.in_default.is in
     let inside : Passes c.args.rec.now c.args.count × (c.args.place ≤ c.args.count) =
-        place-passes c.args.rec.now c.args.count c.args.place placed in
+    place-passes c.args.rec.now c.args.count c.args.place placed in
     let late_is : c.first-late.result ≡ later c.args.count c.args.place c.args.r =
-        c.first-late.ensures ∙ ap₂ ◌then◌ c.record_tests-tested.ensures c.room_test.ensures
+    c.first-late.ensures ∙ ap₂ ◌then◌ c.record_tests-tested.ensures c.room_test.ensures
     ∙ ap (λ (l : ℕ). record_tests c.args.r then when (above (c.args.place + l) c.args.count) (RunsOut c.args.place)) c.length_of-long.ensures in
     let late-passes : later c.args.count c.args.place c.args.r ≡ Passed = sym late_is ∙ c.in_default-late.is in
     let fits : (record_tests c.args.r ≡ Passed) × (c.args.place + length_of c.args.r.kind ≤ c.args.count) =
-        later_says c.args.count c.args.place c.args.r late-passes in
+    later_says c.args.count c.args.place c.args.r late-passes in
     let room : c.args.place + c.length_of-long.result ≤ c.args.count = omega (arith, fits.1, c.length_of-long.ensures) in
     omega (arith, room, inside.0.short_enough)
 
 pub returns : goal.returns
 returns c =
     let placed : place_tests (length c.args.rec.now) c.args.count c.args.place ≡ Passed =
-        sym c.place_tests-early.ensures ∙ c.in_default.is in
+    sym c.place_tests-early.ensures ∙ c.in_default.is in
     let late_is : c.first-late.result ≡ later c.args.count c.args.place c.args.r =
-        c.first-late.ensures ∙ ap₂ ◌then◌ c.record_tests-tested.ensures c.room_test.ensures
+    c.first-late.ensures ∙ ap₂ ◌then◌ c.record_tests-tested.ensures c.room_test.ensures
     ∙ ap (λ (l : ℕ). record_tests c.args.r then when (above (c.args.place + l) c.args.count) (RunsOut c.args.place)) c.length_of-long.ensures in
     let late-passes : later c.args.count c.args.place c.args.r ≡ Passed = sym late_is ∙ c.in_default-late.is in
     let holds : Typed c.args.r = search rules in
