@@ -1,5 +1,6 @@
 // The C interface (`include/l1oc.h`): each function gives the answer of a proved one as the paper's number and value.
 #![tactic(auto)]
+
 ghost use Rattle.std.specs.Prelude.{◌≡◌, length};
 ghost use Rattle.format.specs.Answers.{outcome_code, value_code};
 ghost use Rattle.format.specs.Demand3.{ListPromise};

@@ -18,7 +18,6 @@ use Rattle.bits.proofs.Phases.{cut-recorded, part_bits}
 use Rattle.bits.proofs.Numbers.{number-cut-lt}
 use Rattle.format.specs.Answers.{answer_code}
 use Rattle.format.specs.Tests.{bit_limit}
-use Rattle.format.specs.Listing.{starts}
 use Rattle.format.specs.Reading.{reading}
 use Rattle.format.specs.Strings.{string_bits, type_at}
 use Rattle.text.specs.Text.{row, line_most, Wrote}

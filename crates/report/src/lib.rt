@@ -1,5 +1,6 @@
 // The text that the program `list` prints of a recording, put into a lent buffer. What that text is, `specs/` says.
 #![tactic(auto)]
+
 ghost use Rattle.std.specs.Prelude.{◌≡◌, List, ℕ, ◌+◌, ◌*◌, ◌≤◌, ◌<◌, length, take};
 ghost use Rattle.bits.specs.declared.Phase.TheVariants.{Straight};
 ghost use Rattle.bits.specs.Bits.{number, unpack, Covers};

@@ -1,5 +1,4 @@
 -- `l1oc::l1oc_accuracy`: what an accuracy factor answers, with its number and value. Assumes nothing.
-use borrow.Author.Rules.{rules}
 use mir.Facts.{to_z-of_z}
 use mir.Syntax.{w64}
 use Rattle.l1oc.proofs.Codes.{factors}

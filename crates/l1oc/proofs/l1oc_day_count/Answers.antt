@@ -1,5 +1,4 @@
 -- `l1oc::l1oc_day_count`: what the day count answers, with its number and value. Assumes nothing.
-use borrow.Author.Rules.{rules}
 use mir.Facts.{to_z-of_z}
 use mir.Syntax.{w64}
 use Rattle.l1oc.proofs.Codes.{days}

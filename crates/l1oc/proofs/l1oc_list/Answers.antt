@@ -1,5 +1,4 @@
 -- `l1oc::l1oc_list`: what listing promises, with its answer's number and value. Assumes nothing.
-use borrow.Author.Rules.{rules}
 use Rattle.l1oc.proofs.Codes.{lists}
 use Rattle.l1oc.proofs.l1oc_list.Goals as goal
 

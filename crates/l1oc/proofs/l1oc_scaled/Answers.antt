@@ -1,5 +1,4 @@
 -- `l1oc::l1oc_scaled`: what scaling promises, with its answer's number, value and float. Assumes nothing.
-use borrow.Author.Rules.{rules}
 use Rattle.l1oc.proofs.Codes.{scales}
 use Rattle.l1oc.proofs.l1oc_scaled.Goals as goal
 

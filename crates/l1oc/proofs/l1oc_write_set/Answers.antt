@@ -1,5 +1,4 @@
 -- `l1oc::l1oc_write_set`: what writing a set promises, with its answer's number and value. Assumes nothing.
-use borrow.Author.Rules.{rules}
 use Rattle.l1oc.proofs.Codes.{set-writes}
 use Rattle.l1oc.proofs.l1oc_write_set.Goals as goal
 

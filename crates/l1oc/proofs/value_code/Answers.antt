@@ -1,5 +1,4 @@
 -- `l1oc::value_code`: by its arms; beside a refusal the float is 0.0. Assumes nothing.
-use borrow.Author.Rules.{rules}
 use mathlib.Core.Path.{refl}
 use lib.Ieee.{of_bits}
 use Rattle.l1oc.proofs.value_code.Goals as goal

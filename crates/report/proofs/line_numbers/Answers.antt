@@ -1,6 +1,5 @@
 -- `report::line_numbers`: the service fields from the bytes that they cover, and reading's number. Assumes nothing.
 use native.Mathlib.Omega.{arith}
-use borrow.Author.Rules.{rules}
 use Rattle.bits.proofs.Phases.{part_covers}
 use Rattle.report.proofs.Printing.{line_is}
 use Rattle.report.proofs.line_numbers.Goals as goal

@@ -1,5 +1,4 @@
 -- `report::put_line`: the row of the line's numbers. Assumes nothing.
-use borrow.Author.Rules.{rules}
 use Rattle.report.proofs.put_line.Goals as goal
 
 pub returns : goal.returns

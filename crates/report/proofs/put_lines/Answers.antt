@@ -1,13 +1,8 @@
 -- `report::put_lines`: the loop has written the lines of the first j starts. Assumes nothing.
-use mathlib.Core.List.{List}
 use mathlib.Core.Path.{◌≡◌}
-use Prim.Native.Nat.{ℕ, ◌+◌, ◌-◌, ◌*◌, ◌≤◌}
 use native.Mathlib.Omega.{arith}
-use lib.ListN.{length}
 use borrow.Author.Rules.{rules}
-use Rattle.text.specs.Text.{line_most}
-use Rattle.report.specs.Lines.{Inside}
-use Rattle.report.proofs.Printing.{LinesSoFar, lines_none, lines_more}
+use Rattle.report.proofs.Printing.{lines_none, lines_more}
 use Rattle.report.proofs.put_lines.Goals as goal
 
 pub loop-j-init : goal.loop-j-init

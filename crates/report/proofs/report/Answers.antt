@@ -4,7 +4,6 @@ use mathlib.Core.Path.{◌≡◌, ap, ◌∙◌, subst}
 use Prim.Native.Nat.{ℕ}
 use native.Mathlib.Omega.{arith}
 use lib.ListN.{take}
-use borrow.Author.Rules.{rules}
 use Rattle.text.specs.Text.{Wrote}
 use Rattle.report.specs.Report.{refused_line, listed, report}
 use Rattle.report.specs.Sizes.{bytes_most}

@@ -1,6 +1,5 @@
 -- `report::result_at`: the number of reading's answer. Assumes nothing.
 use mathlib.Core.Path.{ap, ◌∙◌}
-use borrow.Author.Rules.{rules}
 use Rattle.format.specs.Answers.{answer_code}
 use Rattle.format.specs.declared.Reading.{Reading}
 use Rattle.report.proofs.result_at.Goals as goal

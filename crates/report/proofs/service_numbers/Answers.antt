@@ -1,5 +1,4 @@
 -- `report::service_numbers`: each field by its bits. Assumes nothing.
-use borrow.Author.Rules.{rules}
 use Rattle.format.specs.Strings.{type_at}
 use Rattle.report.specs.Report.{service_numbers}
 use Rattle.report.proofs.service_numbers.Goals as goal
