@@ -1,7 +1,7 @@
 /*
  * Prints clock and position of the satellites in a recording: of each string of type 10, 11 or 12 one field in physical units.
  *
- *     cc -std=c99 -Iinclude examples/ephemeris.c target/staticlib/libl1oc.a -o ephemeris
+ *     cc -std=c99 -Iinclude examples/ephemeris.c crates/l1oc/out/libl1oc.a -o ephemeris
  *     ./ephemeris recording.bin        (or: ./ephemeris <recording.bin)
  */
 #include "recording.h"

@@ -1,7 +1,7 @@
 /*
  * Tells the phase of a recording, the one in which more strings stand, and prints the first string that reads in it.
  *
- *     cc -std=c99 -Iinclude examples/phase.c target/staticlib/libl1oc.a -o phase
+ *     cc -std=c99 -Iinclude examples/phase.c crates/l1oc/out/libl1oc.a -o phase
  *     ./phase recording.bin        (or: ./phase <recording.bin)
  */
 #include "recording.h"

@@ -1,7 +1,7 @@
 /*
  * Prints the first ephemeris set of a satellite in a recording, in physical units.
  *
- *     cc -std=c99 -Iinclude examples/satellite.c target/staticlib/libl1oc.a -o satellite
+ *     cc -std=c99 -Iinclude examples/satellite.c crates/l1oc/out/libl1oc.a -o satellite
  *     ./satellite recording.bin 24
  */
 #include "recording.h"

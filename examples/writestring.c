@@ -1,7 +1,7 @@
 /*
  * Writes a string of type 11 with a satellite's position into a buffer, reads it back, and prints the bytes.
  *
- *     cc -std=c99 -Iinclude examples/writestring.c target/staticlib/libl1oc.a -o writestring
+ *     cc -std=c99 -Iinclude examples/writestring.c crates/l1oc/out/libl1oc.a -o writestring
  *     ./writestring [bit place, 0 to 70 [x y z, in km]]
  */
 #include <inttypes.h>

@@ -1,5 +1,5 @@
 /*
- * l1oc.h: strings of the L1OCd signal for C99 and C++. Link with libl1oc.a (x86-64 Linux, `rt staticlib l1oc`).
+ * l1oc.h: strings of the L1OCd signal for C99 and C++. Link with libl1oc.a (x86-64 Linux, `rt lib` in crates/l1oc).
  *
  * A recording is `length` lent bytes of which the first `count` bits count; the high bit of a byte comes first. Places count bits from 0.
  * A string of type 1 has 125 bits, of type 2 375, of every other type 250.

@@ -1,4 +1,4 @@
-//! Links the proved archive, `libl1oc.a`, from the folder where `rt staticlib l1oc` puts it, and takes the limits, the sizes and the
+//! Links the proved archive, `libl1oc.a`, from the folder where `rt lib` in crates/l1oc puts it, and takes the limits, the sizes and the
 //! numbers of phases and refusals from the header.
 
 use std::env;
@@ -9,7 +9,7 @@ fn main() {
     let path = |name| PathBuf::from(env::var_os(name).expect("set by cargo"));
     let root = path("CARGO_MANIFEST_DIR").join("..");
 
-    let folder = root.join("target/staticlib");
+    let folder = root.join("crates/l1oc/out");
     let library = folder.join("libl1oc.a");
     println!("cargo:rerun-if-changed={}", library.display());
     println!("cargo:rustc-link-search=native={}", folder.display());

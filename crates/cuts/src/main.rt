@@ -1,11 +1,14 @@
 // Document 01's plain example 12: reads the string at the start of its standard input with every bit count up to its length, and prints
 // each count with reading's number.
 #![tactic(auto)]
-ghost use Rattle.std.specs.Prelude.{◌+◌, ◌*◌, ◌≤◌, ◌<◌, length};
+
+ghost use Rattle.std.specs.Prelude.{◌+◌, ◌*◌, ◌≤◌, ◌<◌, length, IfOk};
 ghost use Rattle.text.specs.Text.{Wrote};
 ghost use Rattle.cuts.specs.Cuts.{count_line, cuts, counts, cut_most};
 
 use bits::Phase;
+use std::io;
+use std::io::Read;
 
 // How many bit counts there are: from 0 to the string's 250.
 const COUNTS: usize = 251;
@@ -39,10 +42,25 @@ fn put_cuts(rec: &[u8], out: &mut [u8]) -> usize
     at
 }
 
-fn main() {
+// Reads the input until the buffer is full or the input ends, and answers how many bytes came.
+fn read_full<R: Read>(input: &mut R, buf: &mut [u8]) -> io::Result<usize>
+    ensures { IfOk result (λ n. n ≤ length buf.old) }
+{
+    let mut done: usize = 0;
+    while done < buf.len() {
+        let n = input.read(&mut buf[done..])?;
+        if n == 0 {
+            return Ok(done);
+        }
+        done += n;
+    }
+    Ok(done)
+}
+
+fn main(rt: HostRuntime) -> io::Result<()> {
     let mut rec = [0u8; 32];
-    let n = io::read_full(0, &mut rec);
+    let n = read_full(&mut rt.stdin(), &mut rec)?;
     let mut out = [0u8; TEXT];
     let m = put_cuts(&rec[0..n], &mut out);
-    io::write_all(1, &out[0..m]);
+    rt.write_all(&out[0..m])
 }

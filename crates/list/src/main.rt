@@ -1,7 +1,12 @@
 // The program `list`: it lists the recording on its standard input. What it prints is `report` of the crate `report`.
 #![tactic(auto)]
+
 ghost use Rattle.std.specs.Prelude.{length};
 ghost use Rattle.list.specs.Input.{CameIn};
+
+use std::env::{Env, FillError};
+use std::io::{ErrorKind, Read};
+use std::{io, thread};
 
 // How often in a row input that is not there yet is asked for again: for about a minute.
 const PATIENCE: usize = 67108864;
@@ -14,39 +19,35 @@ pub enum Input {
 }
 
 // Says on standard error what is wrong.
-fn complain(text: &[u8]) {
-    io::write_all(libc::STDERR_FILENO, text);
+fn complain(rt: &impl Eprint, text: &str) -> io::Result<()> {
+    rt.eprintln(text)
 }
 
-// Reads from standard input once. Where nothing is there yet, as on a pipe that does not wait, or a signal came between, it reads again.
-fn read_once(buf: &mut [u8]) -> Input
+// Reads from the input once. Where nothing is there yet, as on a pipe that does not wait, or a signal came between, it reads again.
+fn read_once<R: Read>(input: &mut R, buf: &mut [u8]) -> Input
     ensures { CameIn (length buf.old) result }
 {
-    let mut tries: usize = PATIENCE;
-    while tries > 0 {
-        let got = libc::read(libc::STDIN_FILENO, buf);
-        if got >= 0 {
-            return Input::Came(io::count(got, buf));
-        }
-        let error = os::errno();
-        if error != libc::EAGAIN {
-            if error != libc::EINTR {
-                return Input::Unreadable;
+    for _ in 0..PATIENCE {
+        match input.read(buf) {
+            Ok(n) => return Input::Came(n),
+            Err(error) => {
+                if !matches!(error.kind(), ErrorKind::WouldBlock | ErrorKind::Interrupted) {
+                    return Input::Unreadable;
+                }
             }
         }
-        libc::sched_yield();
-        tries -= 1;
+        thread::yield_now();
     }
     Input::Unreadable
 }
 
-// Reads standard input until the buffer is full or the input ends, and answers how many bytes came.
-fn read_input(buf: &mut [u8]) -> Input
+// Reads the input until the buffer is full or the input ends, and answers how many bytes came.
+fn read_input<R: Read>(input: &mut R, buf: &mut [u8]) -> Input
     ensures { CameIn (length buf.old) result }
 {
     let mut done: usize = 0;
     while done < buf.len() {
-        let next = read_once(&mut buf[done..]);
+        let next = read_once(input, &mut buf[done..]);
         let Input::Came(n) = next else {
             return Input::Unreadable;
         };
@@ -59,29 +60,38 @@ fn read_input(buf: &mut [u8]) -> Input
 }
 
 // Prints the report of a recording.
-fn print_report(rec: &[u8]) {
+fn print_report(rt: &(impl Print + Eprint), rec: &[u8]) -> io::Result<()> {
     let mut out = [0u8; report::REPORT];
     let m = report::report(rec, &mut out);
-    if !io::write_all(libc::STDOUT_FILENO, &out[0..m]) {
-        complain(b"list: the output can't be written\n");
+    match rt.write_all(&out[0..m]) {
+        Ok(()) => Ok(()),
+        Err(_) => complain(rt, "list: the output can't be written"),
     }
 }
 
 // Lists the recording on standard input. Of more bytes than a recording may have it reads one too many and no more; what it prints then is
 // the same for every input that begins with them (`report::report`).
-fn list_input() {
+fn list_input(rt: &HostRuntime) -> io::Result<()> {
     let mut rec = [0u8; report::BYTES];
-    let read = read_input(&mut rec);
+    let read = read_input(&mut rt.stdin(), &mut rec);
     match read {
-        Input::Came(n) => print_report(&rec[0..n]),
-        Input::Unreadable => complain(b"list: the input can't be read\n"),
+        Input::Came(n) => print_report(rt, &rec[0..n]),
+        Input::Unreadable => complain(rt, "list: the input can't be read"),
     }
 }
 
-fn main() {
-    if os::arg_count() > 1 {
-        complain(b"list: it takes no arguments; the recording's bytes come on standard input\n");
-    } else {
-        list_input();
+// Whether the program was given an argument.
+fn has_argument(rt: &impl Env) -> bool {
+    !matches!(rt.arg(1, &mut [0u8; 1]), Err(FillError::NotPresent))
+}
+
+// Only where the complaint itself can't be written does it end with an error.
+fn main(rt: HostRuntime) -> io::Result<()> {
+    if has_argument(&rt) {
+        return complain(
+            &rt,
+            "list: it takes no arguments; the recording's bytes come on standard input",
+        );
     }
+    list_input(&rt)
 }

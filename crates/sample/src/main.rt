@@ -1,6 +1,8 @@
 // Writes the three strings of document 01's example end to end, with 7 zero bits after them, and prints the recording.
 #![tactic(auto)]
+
 use format::Record;
+use std::io;
 
 fn content(kind: u8, correction: u8, next: u8, time: u64) -> Record {
     Record {
@@ -19,10 +21,10 @@ fn content(kind: u8, correction: u8, next: u8, time: u64) -> Record {
     }
 }
 
-fn main() {
+fn main(rt: HostRuntime) -> io::Result<()> {
     let mut rec = [0u8; 79];
     writing::write(&mut rec, 632, 0, content(0, 3, 1, 99));
     writing::write(&mut rec, 632, 250, content(1, 3, 0, 100));
     writing::write(&mut rec, 632, 375, content(0, 0, 0, 101));
-    io::write_all(1, &rec);
+    rt.write_all(&rec)
 }
