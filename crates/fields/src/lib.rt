@@ -90,10 +90,10 @@ pub struct Held {
 
 // Holds the `width` bits of `x` after those that are held; these are put first where there is no room beside them.
 fn hold(part: &mut [u8], held: Held, width: usize, x: u64) -> Held
-    requires count_bound { (held.count ≤ 64) × (held.word < 2 ^ held.count) × (width ≤ widest) × (x < 2 ^ width) }
-    requires width_bound { (held.at + held.count + width ≤ 8 * length part.old) × (held.at + held.count + width < 2 ^ 64) }
-    ensures count_value { (result.at + result.count ≡ held.at + held.count + width) × (result.count ≤ 64) × (result.word < 2 ^ result.count) }
-    ensures part_after { after_held result (unpack part.new)
+    requires held_fits { (held.count ≤ 64) × (held.word < 2 ^ held.count) × (width ≤ widest) × (x < 2 ^ width) }
+    requires room { (held.at + held.count + width ≤ 8 * length part.old) × (held.at + held.count + width < 2 ^ 64) }
+    ensures holds { (result.at + result.count ≡ held.at + held.count + width) × (result.count ≤ 64) × (result.word < 2 ^ result.count) }
+    ensures bits_put { after_held result (unpack part.new)
         ≡ put (held.at + held.count) (bits width x) (after_held held (unpack part.old)) }
 {
     let at = held.at;
@@ -123,7 +123,7 @@ pub fn put_numbers(
     numbers: [i64; PLACES],
     minus: Mark,
 )
-    requires to_value { (to ≡ from + total (places_of kind)) × (to ≤ 8 * length part.old) }
+    requires ends { (to ≡ from + total (places_of kind)) × (to ≤ 8 * length part.old) }
     requires tested { Tested (places_of kind) numbers minus }
     ensures { unpack part.new
         ≡ put from (codes (places_of kind) numbers (mark_bits mark_width minus)) (unpack part.old) }

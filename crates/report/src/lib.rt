@@ -119,7 +119,7 @@ fn put_listing(rec: &[u8], out: &mut [u8]) -> usize
 pub fn report(rec: &[u8], out: &mut [u8]) -> usize
     requires { report_most ≤ length out.old }
     ensures wrote { Wrote (report rec.now) 0 out.old out.new result }
-    ensures by_index { (input : List ℕ) → rec.now ≡ take bytes_most input
+    ensures enough { (input : List ℕ) → rec.now ≡ take bytes_most input
         → Wrote (report input) 0 out.old out.new result }
 {
     if rec.len() >= BYTES {

@@ -7,20 +7,20 @@ use Rattle.cyclic.proofs.absorbed.Goals as goal
 pub overflow_cast-left-2 : goal.overflow_cast-left-2
 overflow_cast-left-2 c =
     let leaving : c.args.register / 2 ^ (c.args.degree - c.args.n) < 256 =
-    leaving_lt _ _ _ c.requires.n_bound.0 c.requires.table.least c.requires.n_bound.1 in
+    leaving_lt _ _ _ c.requires.sizes.0 c.requires.table.least c.requires.sizes.1 in
     omega (arith, leaving)
 
 pub offset_bounds-table-register : goal.offset_bounds-table-register
 offset_bounds-table-register c =
     let leaving : c.args.register / 2 ^ (c.args.degree - c.args.n) < 256 =
-    leaving_lt _ _ _ c.requires.n_bound.0 c.requires.table.least c.requires.n_bound.1 in
+    leaving_lt _ _ _ c.requires.sizes.0 c.requires.table.least c.requires.sizes.1 in
     omega (arith, leaving)
 
 pub bounds-table-register : goal.bounds-table-register
 bounds-table-register c =
     let leaving : c.args.register / 2 ^ (c.args.degree - c.args.n) < 256 =
-    leaving_lt _ _ _ c.requires.n_bound.0 c.requires.table.least c.requires.n_bound.1 in
+    leaving_lt _ _ _ c.requires.sizes.0 c.requires.table.least c.requires.sizes.1 in
     omega (arith, leaving, c.requires.table.entries)
 
 pub returns : goal.returns
-returns c = let p = c.requires in turn_block _ _ _ p.table _ _ _ p.n_bound.0 p.n_bound.1 p.n_bound.2
+returns c = let p = c.requires in turn_block _ _ _ p.table _ _ _ p.sizes.0 p.sizes.1 p.sizes.2

@@ -19,13 +19,13 @@ pub loop-i-init : goal.loop-i-init
 loop-i-init c =
     let all : List Bool = true_bits c.args.phase c.args.bytes.now in
     let a = c.args in
-    (search rules, after_none all 0 a.generator a.degree a.start c.requires.start_bound)
+    (search rules, after_none all 0 a.generator a.degree a.start c.requires.start_fits)
 
 pub absorbed-register-requires : goal.absorbed-register-requires
 absorbed-register-requires c =
     let all : List Bool = true_bits c.args.phase c.args.bytes.now in
     let a = c.args in
-    record { table = c.requires.table; n_bound = (omega arith, after-lt all 0 a.generator a.degree a.start _ _ c.loop-i.invariant.1, omega arith) }
+    record { table = c.requires.table; sizes = (omega arith, after-lt all 0 a.generator a.degree a.start _ _ c.loop-i.invariant.1, omega arith) }
 
 pub loop-i-preserved : goal.loop-i-preserved
 loop-i-preserved c =

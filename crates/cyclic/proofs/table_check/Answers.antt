@@ -12,7 +12,7 @@ pub bytes_after-requires : goal.bytes_after-requires
 bytes_after-requires c =
     let register-lt : c.table_remainder-register.result < 2 ^ c.args.degree =
     remainder-lt c.args.generator c.args.degree c.requires.table.highest _ _ c.table_remainder-register.ensures in
-    record { start_bound = register-lt; table = c.requires.table }
+    record { start_fits = register-lt; table = c.requires.table }
 
 pub returns : goal.returns
 returns c =

@@ -22,7 +22,7 @@ loop-at-init c =
     let u = unpack c.args.part.now in
     let l : length c.args.numbers ≡ places = search rules in
     let h = length-unpack c.args.part.now in
-    let room : c.args.from + total (places_of c.args.kind) ≤ length u = omega (arith, h, c.requires.to_value.0, c.requires.to_value.1) in (
+    let room : c.args.from + total (places_of c.args.kind) ≤ length u = omega (arith, h, c.requires.ends.0, c.requires.ends.1) in (
       omega arith,
       search rules,
       omega arith,
@@ -33,23 +33,23 @@ loop-at-init c =
 
 pub bounds-widths-i : goal.bounds-widths-i
 bounds-widths-i c =
-    let below : c.loop-at.i < places = left_here c.loop-at.invariant.5 (omega (arith, c.requires.to_value.0)) in
+    let below : c.loop-at.i < places = left_here c.loop-at.invariant.5 (omega (arith, c.requires.ends.0)) in
     below
 
 pub bounds-signs-i : goal.bounds-signs-i
 bounds-signs-i c =
-    let below : c.loop-at.i < places = left_here c.loop-at.invariant.5 (omega (arith, c.requires.to_value.0)) in
+    let below : c.loop-at.i < places = left_here c.loop-at.invariant.5 (omega (arith, c.requires.ends.0)) in
     below
 
 pub bounds-numbers-i : goal.bounds-numbers-i
 bounds-numbers-i c =
-    let below : c.loop-at.i < places = left_here c.loop-at.invariant.5 (omega (arith, c.requires.to_value.0)) in
+    let below : c.loop-at.i < places = left_here c.loop-at.invariant.5 (omega (arith, c.requires.ends.0)) in
     below
 
 pub code-x-requires : goal.code-x-requires
 code-x-requires c =
     let long : length c.args.numbers ≡ places = search rules in
-    let below : c.loop-at.i < places = left_here c.loop-at.invariant.5 (omega (arith, c.requires.to_value.0)) in
+    let below : c.loop-at.i < places = left_here c.loop-at.invariant.5 (omega (arith, c.requires.ends.0)) in
     let below-here : c.loop-at.i < places = below in
     let number : to_z w64 (of_z w64 (get_or c.args.numbers c.loop-at.i (pos 0))) ≡ get_or c.args.numbers c.loop-at.i (pos 0) =
     to_z-of_z {w = w64} (record { sfits = c.code-arg-1.given }) in
@@ -58,7 +58,7 @@ code-x-requires c =
 pub hold-held-requires : goal.hold-held-requires
 hold-held-requires c =
     let long : length c.args.numbers ≡ places = search rules in
-    let below : c.loop-at.i < places = left_here c.loop-at.invariant.5 (omega (arith, c.requires.to_value.0)) in
+    let below : c.loop-at.i < places = left_here c.loop-at.invariant.5 (omega (arith, c.requires.ends.0)) in
     let below-here : c.loop-at.i < places = below in
     let number : to_z w64 (of_z w64 (get_or c.args.numbers c.loop-at.i (pos 0))) ≡ get_or c.args.numbers c.loop-at.i (pos 0) =
     to_z-of_z {w = w64} (record { sfits = c.code-arg-1.given }) in
@@ -66,39 +66,39 @@ hold-held-requires c =
     let room = room-here c.loop-at.invariant.5 c.widths_of-widths.ensures c.row_of-row.ensures below-here in
     let seen = odd_seen c.loop-at.marks in
     let small = x_fits c.loop-at.invariant.5 c.widths_of-widths.ensures c.row_of-row.ensures below-here long number seen c.code-x.ensures in
-    let on = c.loop-at.invariant.4 in record { count_bound = (c.loop-at.invariant.2, c.loop-at.invariant.3, narrow, small); width_bound = (omega (arith, room, on, c.requires.to_value.0, c.requires.to_value.1), omega (arith, room, on, c.requires.to_value.0)) }
+    let on = c.loop-at.invariant.4 in record { held_fits = (c.loop-at.invariant.2, c.loop-at.invariant.3, narrow, small); room = (omega (arith, room, on, c.requires.ends.0, c.requires.ends.1), omega (arith, room, on, c.requires.ends.0)) }
 
 pub overflow_add-at : goal.overflow_add-at
 overflow_add-at c =
-    let below : c.loop-at.i < places = left_here c.loop-at.invariant.5 (omega (arith, c.requires.to_value.0)) in
+    let below : c.loop-at.i < places = left_here c.loop-at.invariant.5 (omega (arith, c.requires.ends.0)) in
     let below-here : c.loop-at.i < places = below in
-    record { fits = omega (arith, room-here c.loop-at.invariant.5 c.widths_of-widths.ensures c.row_of-row.ensures below-here, c.requires.to_value.0) }
+    record { fits = omega (arith, room-here c.loop-at.invariant.5 c.widths_of-widths.ensures c.row_of-row.ensures below-here, c.requires.ends.0) }
 
 pub loop-at-smaller : goal.loop-at-smaller
 loop-at-smaller c =
-    let below : c.loop-at.i < places = left_here c.loop-at.invariant.5 (omega (arith, c.requires.to_value.0)) in
+    let below : c.loop-at.i < places = left_here c.loop-at.invariant.5 (omega (arith, c.requires.ends.0)) in
     let below-here : c.loop-at.i < places = below in
     omega (arith, below-here)
 
 pub loop-at-preserved : goal.loop-at-preserved
 loop-at-preserved c =
     let long : length c.args.numbers ≡ places = search rules in
-    let below : c.loop-at.i < places = left_here c.loop-at.invariant.5 (omega (arith, c.requires.to_value.0)) in
+    let below : c.loop-at.i < places = left_here c.loop-at.invariant.5 (omega (arith, c.requires.ends.0)) in
     let below-here : c.loop-at.i < places = below in
     let number : to_z w64 (of_z w64 (get_or c.args.numbers c.loop-at.i (pos 0))) ≡ get_or c.args.numbers c.loop-at.i (pos 0) =
     to_z-of_z {w = w64} (record { sfits = c.code-arg-1.given }) in
     let e = c.hold-held.ensures in
     let code = c.code-x.ensures in
-    let z = put-at-same _ _ c.loop-at.invariant.4 e.part_after in
+    let z = put-at-same _ _ c.loop-at.invariant.4 e.bits_put in
     let on = written_on c.loop-at.invariant.5 c.widths_of-widths.ensures c.row_of-row.ensures below-here long number (odd_seen c.loop-at.marks) code z in
-    (omega (arith, below-here), search rules, e.count_value.1, e.count_value.2, omega (arith, e.count_value.0, c.loop-at.invariant.4), on)
+    (omega (arith, below-here), search rules, e.holds.1, e.holds.2, omega (arith, e.holds.0, c.loop-at.invariant.4), on)
 
 pub put_field-requires : goal.put_field-requires
 put_field-requires c =
     let p = c.loop-at.invariant.5.place in
     let h = c.loop-at.invariant.4 in
-    (c.loop-at.invariant.2, c.loop-at.invariant.3, omega (arith, p, h, c.requires.to_value.0, c.requires.to_value.1), omega (arith, p, h, c.requires.to_value.0))
+    (c.loop-at.invariant.2, c.loop-at.invariant.3, omega (arith, p, h, c.requires.ends.0, c.requires.ends.1), omega (arith, p, h, c.requires.ends.0))
 
 pub returns : goal.returns
 returns c =
-    c.put_field.ensures ∙ written_all c.loop-at.invariant.5 (omega (arith, c.requires.to_value.0))
+    c.put_field.ensures ∙ written_all c.loop-at.invariant.5 (omega (arith, c.requires.ends.0))

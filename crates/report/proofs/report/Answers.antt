@@ -19,10 +19,10 @@ pub returns-then-rec-ge-BYTES : goal.returns-then-rec-ge-BYTES
 returns-then-rec-ge-BYTES c =
     let too_long : report c.args.rec.now ≡ refused_line = report-refused c.args.rec.now (omega arith) in
     let w = printed (rw too_long c.put_bytes.ensures) in
-    record { wrote = w.0; by_index = w.1 }
+    record { wrote = w.0; enough = w.1 }
 
 pub returns : goal.returns
 returns c =
     let not-too-long : report c.args.rec.now ≡ listed c.args.rec.now = report-listed c.args.rec.now (omega arith) in
     let w = printed (rw not-too-long c.put_listing.ensures) in
-    record { wrote = w.0; by_index = w.1 }
+    record { wrote = w.0; enough = w.1 }

@@ -7,7 +7,7 @@ pub table_divides-requires : goal.table_divides-requires
 table_divides-requires c =
     let p = c.requires in
     let r = covered-run _ p.0 p.1 in
-    record { le_count = (omega (arith, r.0), r.1, omega (arith, r.2)); table = c.table24-table.ensures }
+    record { run_inside = (omega (arith, r.0), r.1, omega (arith, r.2)); table = c.table24-table.ensures }
 
 pub returns-then-kind-eq2 : goal.returns-then-kind-eq2
 returns-then-kind-eq2 c = by_generator (number_two _ c.if-kind-eq2.true) c.table_divides.ensures
@@ -16,7 +16,7 @@ pub table_divides-requires-2 : goal.table_divides-requires-2
 table_divides-requires-2 c =
     let p = c.requires in
     let r = covered-run _ p.0 p.1 in
-    record { le_count = (omega (arith, r.0), r.1, omega (arith, r.2)); table = c.table16-table.ensures }
+    record { run_inside = (omega (arith, r.0), r.1, omega (arith, r.2)); table = c.table16-table.ensures }
 
 pub returns : goal.returns
 returns c = by_generator (number_other _ c.if-kind-eq2.false) c.table_divides-2.ensures

@@ -7,13 +7,13 @@ pub table_divides-requires : goal.table_divides-requires
 table_divides-requires c =
     let p = c.requires in
     let r = covered-run _ p.0 p.1 in
-    record { le_count = (omega (arith, r.0), omega (arith, r.1), omega (arith, r.2)); table = p.2.long }
+    record { run_inside = (omega (arith, r.0), omega (arith, r.1), omega (arith, r.2)); table = p.2.long }
 
 pub table_divides-requires-else-kind-eq2 : goal.table_divides-requires-else-kind-eq2
 table_divides-requires-else-kind-eq2 c =
     let p = c.requires in
     let r = covered-run _ p.0 p.1 in
-    record { le_count = (omega (arith, r.0), omega (arith, r.1), omega (arith, r.2)); table = p.2.short }
+    record { run_inside = (omega (arith, r.0), omega (arith, r.1), omega (arith, r.2)); table = p.2.short }
 
 pub returns-then-kind-eq2 : goal.returns-then-kind-eq2
 returns-then-kind-eq2 c = by_generator (number_two _ c.if-kind-eq2.true) c.table_divides.ensures

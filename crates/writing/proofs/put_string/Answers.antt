@@ -51,7 +51,7 @@ pub put_numbers-requires : goal.put_numbers-requires
 put_numbers-requires c =
     let pieces : 50 + total (places_of c.args.r.kind) + c.raw_count-n.result + c.check_count-degree.result ≡ c.args.long =
     omega (arith, string-filled c.args.r.kind, c.check_count-degree.ensures, c.raw_count-n.ensures, c.requires.1) in
-    record { to_value = (omega (arith, pieces), omega (arith, pieces, c.requires.2)); tested = tested c.args.r c.requires.3 }
+    record { ends = (omega (arith, pieces), omega (arith, pieces, c.requires.2)); tested = tested c.args.r c.requires.3 }
 
 pub put_raw-requires : goal.put_raw-requires
 put_raw-requires c =
