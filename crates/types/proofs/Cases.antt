@@ -13,8 +13,11 @@ use Rattle.cyclic.specs.Generators.{generator16, generator24}
 use Rattle.cyclic.specs.Poly.{Divides}
 use Rattle.cyclic.specs.Register.{degree, check}
 use Rattle.cyclic.proofs.Worked.{number16, number24}
+use Rattle.format.specs.Fields.{total}
 use Rattle.format.specs.Strings.{length_of, generator_of, check_bits}
+use Rattle.format.specs.Types.{places_of, raw_count}
 use Rattle.format.proofs.Agree.{length_unit}
+use Rattle.format.proofs.Information.{string-filled}
 
 -- ---- lengths
 module _ (t : ℕ) where
@@ -58,6 +61,11 @@ check_other t n = ap degree (generator_other t n)
 
 pub check_few : (t : ℕ) → check_bits t ≤ 24
 check_few t = elim (ℕ_discrete t 2) [ yes e ↦ omega (arith, check_two t e) | no n ↦ omega (arith, check_other t n) ]
+
+-- ---- how a string's bits are parted: mark and service fields, information fields, raw bits, check bits
+pub parted : (t : ℕ) {n degree long : ℕ} → n ≡ raw_count t → degree ≡ check_bits t → long ≡ length_of t
+    → 50 + total (places_of t) + n + degree ≡ long
+parted t n d l = omega (arith, string-filled t, n, d, l)
 
 -- ---- a string's bits in the bytes that it covers
 pub covered-run : {s : List ℕ} {offset long : ℕ} (t : ℕ) → Covers s offset long → long ≡ length_of t

@@ -1,12 +1,10 @@
 -- `fields::put_numbers`: what the loop has written or holds when it has come to the place i of the record. Assumes nothing.
 use mathlib.Core.Path.{◌≡◌, ◌∙◌}
-use Prim.Native.Nat.{◌+◌, ◌≤◌, ◌<◌}
+use Prim.Native.Nat.{◌+◌, ◌≤◌}
 use native.Mathlib.Omega.{arith}
-use lib.IntN.{pos}
-use lib.ListN.{length, get_or}
+use lib.ListN.{length}
 use mir.Facts.{to_z-of_z}
 use mir.Syntax.{w64}
-use mir.Val.{to_z, of_z}
 use borrow.Author.Rules.{rules}
 use Rattle.bits.proofs.Bytes.{length-unpack}
 use Rattle.bits.specs.Bits.{unpack}
@@ -32,66 +30,52 @@ loop-at-init c =
     )
 
 pub bounds-widths-i : goal.bounds-widths-i
-bounds-widths-i c =
-    let below : c.loop-at.i < places = left_here c.loop-at.invariant.5 (omega (arith, c.requires.ends.0)) in
-    below
+bounds-widths-i c = left_here c.loop-at.invariant.5 (omega (arith, c.requires.ends.0))
 
 pub bounds-signs-i : goal.bounds-signs-i
-bounds-signs-i c =
-    let below : c.loop-at.i < places = left_here c.loop-at.invariant.5 (omega (arith, c.requires.ends.0)) in
-    below
+bounds-signs-i c = left_here c.loop-at.invariant.5 (omega (arith, c.requires.ends.0))
 
 pub bounds-numbers-i : goal.bounds-numbers-i
-bounds-numbers-i c =
-    let below : c.loop-at.i < places = left_here c.loop-at.invariant.5 (omega (arith, c.requires.ends.0)) in
-    below
+bounds-numbers-i c = left_here c.loop-at.invariant.5 (omega (arith, c.requires.ends.0))
 
 pub code-x-requires : goal.code-x-requires
 code-x-requires c =
     let long : length c.args.numbers ≡ places = search rules in
-    let below : c.loop-at.i < places = left_here c.loop-at.invariant.5 (omega (arith, c.requires.ends.0)) in
-    let below-here : c.loop-at.i < places = below in
-    let number : to_z w64 (of_z w64 (get_or c.args.numbers c.loop-at.i (pos 0))) ≡ get_or c.args.numbers c.loop-at.i (pos 0) =
-    to_z-of_z {w = w64} (record { sfits = c.code-arg-1.given }) in
-    code_asks c.loop-at.invariant.5 c.widths_of-widths.ensures c.row_of-row.ensures below-here long number (odd_seen c.loop-at.marks)
+    let below = left_here c.loop-at.invariant.5 (omega (arith, c.requires.ends.0)) in
+    let number = to_z-of_z {w = w64} (record { sfits = c.code-arg-1.given }) in
+    code_asks c.loop-at.invariant.5 c.widths_of-widths.ensures c.row_of-row.ensures below long number (odd_seen c.loop-at.marks)
 
 pub hold-held-requires : goal.hold-held-requires
 hold-held-requires c =
     let long : length c.args.numbers ≡ places = search rules in
-    let below : c.loop-at.i < places = left_here c.loop-at.invariant.5 (omega (arith, c.requires.ends.0)) in
-    let below-here : c.loop-at.i < places = below in
-    let number : to_z w64 (of_z w64 (get_or c.args.numbers c.loop-at.i (pos 0))) ≡ get_or c.args.numbers c.loop-at.i (pos 0) =
-    to_z-of_z {w = w64} (record { sfits = c.code-arg-1.given }) in
-    let narrow = narrow_here c.loop-at.invariant.5 c.widths_of-widths.ensures c.row_of-row.ensures below-here in
-    let room = room-here c.loop-at.invariant.5 c.widths_of-widths.ensures c.row_of-row.ensures below-here in
+    let below = left_here c.loop-at.invariant.5 (omega (arith, c.requires.ends.0)) in
+    let number = to_z-of_z {w = w64} (record { sfits = c.code-arg-1.given }) in
+    let narrow = narrow_here c.loop-at.invariant.5 c.widths_of-widths.ensures c.row_of-row.ensures below in
+    let room = room-here c.loop-at.invariant.5 c.widths_of-widths.ensures c.row_of-row.ensures below in
     let seen = odd_seen c.loop-at.marks in
-    let small = x_fits c.loop-at.invariant.5 c.widths_of-widths.ensures c.row_of-row.ensures below-here long number seen c.code-x.ensures in
+    let small = x_fits c.loop-at.invariant.5 c.widths_of-widths.ensures c.row_of-row.ensures below long number seen c.code-x.ensures in
     let on = c.loop-at.invariant.4 in record { held_fits = (c.loop-at.invariant.2, c.loop-at.invariant.3, narrow, small); room = (omega (arith, room, on, c.requires.ends.0, c.requires.ends.1), omega (arith, room, on, c.requires.ends.0)) }
 
 pub overflow_add-at : goal.overflow_add-at
 overflow_add-at c =
-    let below : c.loop-at.i < places = left_here c.loop-at.invariant.5 (omega (arith, c.requires.ends.0)) in
-    let below-here : c.loop-at.i < places = below in
-    record { fits = omega (arith, room-here c.loop-at.invariant.5 c.widths_of-widths.ensures c.row_of-row.ensures below-here, c.requires.ends.0) }
+    let below = left_here c.loop-at.invariant.5 (omega (arith, c.requires.ends.0)) in
+    record { fits = omega (arith, room-here c.loop-at.invariant.5 c.widths_of-widths.ensures c.row_of-row.ensures below, c.requires.ends.0) }
 
 pub loop-at-smaller : goal.loop-at-smaller
 loop-at-smaller c =
-    let below : c.loop-at.i < places = left_here c.loop-at.invariant.5 (omega (arith, c.requires.ends.0)) in
-    let below-here : c.loop-at.i < places = below in
-    omega (arith, below-here)
+    let below = left_here c.loop-at.invariant.5 (omega (arith, c.requires.ends.0)) in
+    omega (arith, below)
 
 pub loop-at-preserved : goal.loop-at-preserved
 loop-at-preserved c =
     let long : length c.args.numbers ≡ places = search rules in
-    let below : c.loop-at.i < places = left_here c.loop-at.invariant.5 (omega (arith, c.requires.ends.0)) in
-    let below-here : c.loop-at.i < places = below in
-    let number : to_z w64 (of_z w64 (get_or c.args.numbers c.loop-at.i (pos 0))) ≡ get_or c.args.numbers c.loop-at.i (pos 0) =
-    to_z-of_z {w = w64} (record { sfits = c.code-arg-1.given }) in
+    let below = left_here c.loop-at.invariant.5 (omega (arith, c.requires.ends.0)) in
+    let number = to_z-of_z {w = w64} (record { sfits = c.code-arg-1.given }) in
     let e = c.hold-held.ensures in
     let code = c.code-x.ensures in
     let z = put-at-same _ _ c.loop-at.invariant.4 e.bits_put in
-    let on = written_on c.loop-at.invariant.5 c.widths_of-widths.ensures c.row_of-row.ensures below-here long number (odd_seen c.loop-at.marks) code z in
-    (omega (arith, below-here), search rules, e.holds.1, e.holds.2, omega (arith, e.holds.0, c.loop-at.invariant.4), on)
+    let on = written_on c.loop-at.invariant.5 c.widths_of-widths.ensures c.row_of-row.ensures below long number (odd_seen c.loop-at.marks) code z in
+    (omega (arith, below), search rules, e.holds.1, e.holds.2, omega (arith, e.holds.0, c.loop-at.invariant.4), on)
 
 pub put_field-requires : goal.put_field-requires
 put_field-requires c =

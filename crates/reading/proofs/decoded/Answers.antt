@@ -8,11 +8,10 @@ use lib.ListN.{length, replicate}
 use Rattle.bits.proofs.Phases.{length_true}
 use Rattle.bits.specs.Bits.{true_bits, cut, put, pack}
 use Rattle.format.proofs.Agree.{length_unit}
-use Rattle.format.proofs.Information.{string-filled, raw_few}
-use Rattle.format.specs.Fields.{total}
+use Rattle.format.proofs.Information.{raw_few}
+use Rattle.types.proofs.Cases.{parted}
 use Rattle.format.specs.Records.{raw_bytes}
 use Rattle.format.specs.Strings.{type_at, length_of}
-use Rattle.format.specs.Types.{places_of}
 use Rattle.reading.proofs.Service.{decoded_is}
 use Rattle.reading.proofs.decoded.Goals as goal
 
@@ -22,41 +21,25 @@ field-service-requires c =
     (omega arith, omega (arith, length_unit c.args.kind, c.requires.2, c.requires.0.last, b))
 
 pub overflow_add-to : goal.overflow_add-to
-overflow_add-to c =
-    let near : c.args.offset ≤ 7 = omega (arith, c.requires.0.first) in
-    let short : c.args.long ≤ 375 = omega (arith, c.requires.2, length_unit c.args.kind) in
-    omega (arith, short, near)
+overflow_add-to c = omega (arith, c.requires.2, length_unit c.args.kind, c.requires.0.first)
 
 pub overflow_sub-to : goal.overflow_sub-to
-overflow_sub-to c =
-    let filled : 50 + total (places_of c.args.kind) + c.raw_count-n.result + c.check_count.result ≡ c.args.long =
-    omega (arith, string-filled c.args.kind, c.raw_count-n.ensures, c.check_count.ensures, c.requires.2) in
-    omega (arith, filled)
+overflow_sub-to c = omega (arith, parted c.args.kind c.raw_count-n.ensures c.check_count.ensures c.requires.2)
 
 pub overflow_sub-to-2 : goal.overflow_sub-to-2
-overflow_sub-to-2 c =
-    let filled : 50 + total (places_of c.args.kind) + c.raw_count-n.result + c.check_count.result ≡ c.args.long =
-    omega (arith, string-filled c.args.kind, c.raw_count-n.ensures, c.check_count.ensures, c.requires.2) in
-    omega (arith, filled)
+overflow_sub-to-2 c = omega (arith, parted c.args.kind c.raw_count-n.ensures c.check_count.ensures c.requires.2)
 
 pub numbers_at-fields-requires : goal.numbers_at-fields-requires
 numbers_at-fields-requires c =
-    let room : c.args.offset + c.args.long ≤ 8 * length c.args.part.now = omega (arith, c.requires.0.last) in
-    let filled : 50 + total (places_of c.args.kind) + c.raw_count-n.result + c.check_count.result ≡ c.args.long =
-    omega (arith, string-filled c.args.kind, c.raw_count-n.ensures, c.check_count.ensures, c.requires.2) in
-    (omega (arith, filled), omega (arith, filled, room))
+    let p = parted c.args.kind c.raw_count-n.ensures c.check_count.ensures c.requires.2 in
+    (omega (arith, p), omega (arith, p, c.requires.0.last))
 
 pub raw_at-raw-requires : goal.raw_at-raw-requires
 raw_at-raw-requires c =
-    let near : c.args.offset ≤ 7 = omega (arith, c.requires.0.first) in
-    let short : c.args.long ≤ 375 = omega (arith, c.requires.2, length_unit c.args.kind) in
-    let room : c.args.offset + c.args.long ≤ 8 * length c.args.part.now = omega (arith, c.requires.0.last) in
-    let filled : 50 + total (places_of c.args.kind) + c.raw_count-n.result + c.check_count.result ≡ c.args.long =
-    omega (arith, string-filled c.args.kind, c.raw_count-n.ensures, c.check_count.ensures, c.requires.2) in (
+    let p = parted c.args.kind c.raw_count-n.ensures c.check_count.ensures c.requires.2 in (
       omega (arith, raw_few c.args.kind, c.raw_count-n.ensures),
-      omega (arith, filled, room),
-      omega
-          (arith, filled, short, near),
+      omega (arith, p, c.requires.0.last),
+      omega (arith, p, c.requires.2, length_unit c.args.kind, c.requires.0.first),
     )
 
 pub returns : goal.returns

@@ -77,26 +77,22 @@ loop-i-preserved c =
 
 pub mark_from-requires : goal.mark_from-requires
 mark_from-requires c =
-    let Free : ℕ → Type 0 =
-    λ p. let a = c.args in
-    (a.from ≤ p) × (p ≤ a.count) × MarkFree (recorded a.phase a.rec.now a.count) a.from p in
-    let come : Free c.if-from-count.p =
+    let near : c.if-from-count.p ≤ c.args.count =
     elim c.if-from-count.branch [
-      | then-from-count+else-hits-ne0+else-loop-i-test w ↦
-          let v = w.loop-i.invariant in subst Free (sym w.p-is) (omega (arith, v.0), v.1, v.2)
-      | else-from-count w ↦ subst Free (sym w.p-is) (omega arith, c.requires.2, free_none _ _)
+      | then-from-count+else-hits-ne0+else-loop-i-test w ↦ rw w.p-is w.loop-i.invariant.1
+      | else-from-count w ↦ rw w.p-is c.requires.2
     ] in
-    (c.requires.0, c.requires.1, come.1)
+    (c.requires.0, c.requires.1, near)
 
+-- before the search place by place, the words have shown no mark, or there was no word
 pub returns : goal.returns
 returns c =
-    let Free : ℕ → Type 0 =
-    λ p. let a = c.args in
-    (a.from ≤ p) × (p ≤ a.count) × MarkFree (recorded a.phase a.rec.now a.count) a.from p in
+    let q = c.args in
+    let Free : ℕ → Type 0 = λ p. (q.from ≤ p) × MarkFree (recorded q.phase q.rec.now q.count) q.from p in
     let come : Free c.if-from-count.p =
     elim c.if-from-count.branch [
       | then-from-count+else-hits-ne0+else-loop-i-test w ↦
-          let v = w.loop-i.invariant in subst Free (sym w.p-is) (omega (arith, v.0), v.1, v.2)
-      | else-from-count w ↦ subst Free (sym w.p-is) (omega arith, c.requires.2, free_none _ _)
+          let v = w.loop-i.invariant in subst Free (sym w.p-is) (omega (arith, v.0), v.2)
+      | else-from-count w ↦ subst Free (sym w.p-is) (omega arith, free_none _ _)
     ] in
-    next-on _ _ c.if-from-count.p _ come.2 come.0 c.mark_from.ensures
+    next-on _ _ c.if-from-count.p _ come.1 come.0 c.mark_from.ensures

@@ -1,8 +1,9 @@
 -- `sets::read`: each return is where the chain of the three strings' answers and the set's tests ends. Assumes nothing.
 use mathlib.Core.Path.{◌≡◌, sym, ap, ap₂, ◌∙◌}
-use Prim.Native.Nat.{ℕ, ◌+◌, ◌≤◌, ◌<◌}
+use mathlib.Core.List.{List}
+use Prim.Native.Nat.{ℕ, ◌+◌, ◌≤◌}
 use native.Mathlib.Omega.{arith}
-use lib.ListN.{get_or}
+use Rattle.bits.specs.declared.Phase.{Phase}
 use Rattle.format.specs.declared.Answer.{Answer}
 use Rattle.format.specs.declared.Answer.TheVariants.{Passed, Refused}
 use Rattle.format.specs.declared.Reading.{Reading}
@@ -21,95 +22,90 @@ answer-of x = x.answer
 abbrev length-read : Reading → ℕ
 length-read x = length_of x.content.kind
 
+-- What the three readings are, in the places that the definitions name.
+module _ (φ : Phase) (bytes : List ℕ) (count place : ℕ) where
+  abbrev at : ℕ → Reading
+  at = reading φ bytes count
+
+  passes : (p : ℕ) {r : Reading} → r ≡ at p → r.answer ≡ Passed → (at p).answer ≡ Passed
+  passes p e h = ap answer-of (sym e) ∙ h
+
+  -- the place after a string that reads
+  near : (p : ℕ) {next : ℕ} → next ≡ p + length_of (at p).content.kind → (at p).answer ≡ Passed → next ≤ bit_limit
+  near p e h = omega (arith, e, read_fits _ _ _ _ h, (read_passes _ _ _ _ h).short_enough)
+
+  module _ {one : Reading} {long : ℕ} (e : one ≡ at place) (l : long ≡ length_of one.content.kind) where
+    second-is : place + long ≡ second_place φ bytes count place
+    second-is = ap (λ (n : ℕ). place + n) (l ∙ ap length-read e)
+
+    module _ {two : Reading} (f : two ≡ at (place + long)) where
+      two-is : two ≡ at (second_place φ bytes count place)
+      two-is = f ∙ ap at second-is
+
+      module _ {next : ℕ} (m : next ≡ length_of two.content.kind) where
+        third-is : place + long + next ≡ third_place φ bytes count place
+        third-is = ap₂ (λ (p n : ℕ). p + n) second-is (m ∙ ap length-read two-is)
+
+        module _ {three : Reading} (g : three ≡ at (place + long + next)) where
+          three-is : three ≡ at (third_place φ bytes count place)
+          three-is = g ∙ ap at third-is
+
+          abbrev made : Set
+          made = record { first = one.content; second = two.content; third = three.content }
+
+          same : made ≡ set_at φ bytes count place
+          same i = record { first = (e i).content; second = (two-is i).content; third = (three-is i).content }
+
+          -- what is answered where the first two strings read
+          tests : {tested together : Answer} → tested ≡ (three.answer then together) → together ≡ set_tests made → one.answer ≡ Passed
+              → two.answer ≡ Passed → (a : Answer) → tested ≡ a → beside_set a (set_at φ bytes count place) ≡ set_reading φ bytes count place
+          tests t u p q a h =
+              last_tested φ bytes count place (passes place e p) (passes (second_place φ bytes count place) two-is q) a
+              (sym (ap₂ ◌then◌ (ap answer-of three-is) (u ∙ ap set_tests same)) ∙ sym t ∙ h)
+
 pub returns-in-Refused : goal.returns-in-Refused
 returns-in-Refused c =
-    let below : (i : ℕ) → get_or c.args.rec.now i 0 < 256 = λ i. (c.shared_slice_known-1.given i).fits in
-    read_promised _ _ _ _ below
+    read_promised _ _ _ _ (λ i. (c.shared_slice_known-1.given i).fits)
     (c.refused.ensures ∙ first-refuses _ _ _ _ _ (ap answer-of (sym c.read-one.ensures.answered) ∙ c.in-Refused.is))
 
 pub overflow_add-second_place : goal.overflow_add-second_place
 overflow_add-second_place c =
-    let at : ℕ → Reading = reading c.args.phase c.args.rec.now c.args.count in
-    let second-place : ℕ = second_place c.args.phase c.args.rec.now c.args.count c.args.place in
-    let passed : (at c.args.place).answer ≡ Passed = ap answer-of (sym c.read-one.ensures.answered) ∙ c.in_default.is in
-    let second_is : c.args.place + c.length_of-long.result ≡ second-place =
-    ap (λ (n : ℕ). c.args.place + n) (c.length_of-long.ensures ∙ ap length-read c.read-one.ensures.answered) in
-    let room : c.args.place + c.length_of-long.result ≤ bit_limit =
-    omega (arith, second_is, read_fits _ _ _ _ passed, (read_passes _ _ _ _ passed).short_enough) in
-    omega (arith, room)
+    let q = c.args in
+    let h = passes q.phase q.rec.now q.count q.place q.place c.read-one.ensures.answered c.in_default.is in
+    omega (arith, near q.phase q.rec.now q.count q.place q.place (second-is q.phase q.rec.now q.count q.place c.read-one.ensures.answered c.length_of-long.ensures) h)
 
 pub returns-in-Refused-answer : goal.returns-in-Refused-answer
 returns-in-Refused-answer c =
-    let at : ℕ → Reading = reading c.args.phase c.args.rec.now c.args.count in
-    let second-place : ℕ = second_place c.args.phase c.args.rec.now c.args.count c.args.place in
-    let below : (i : ℕ) → get_or c.args.rec.now i 0 < 256 = λ i. (c.shared_slice_known-1.given i).fits in
-    let passed : (at c.args.place).answer ≡ Passed = ap answer-of (sym c.read-one.ensures.answered) ∙ c.in_default.is in
-    let second_is : c.args.place + c.length_of-long.result ≡ second-place =
-    ap (λ (n : ℕ). c.args.place + n) (c.length_of-long.ensures ∙ ap length-read c.read-one.ensures.answered) in
-    let two : c.read-two.result ≡ at second-place = c.read-two.ensures.answered ∙ ap at second_is in
-    read_promised _ _ _ _ below
-    (c.refused-in-Refused-answer.ensures
-    ∙ second-refuses _ _ _ _ passed _ (ap answer-of (sym two) ∙ c.in-Refused-answer.is))
+    let q = c.args in
+    let h = passes q.phase q.rec.now q.count q.place q.place c.read-one.ensures.answered c.in_default.is in
+    let two = two-is q.phase q.rec.now q.count q.place c.read-one.ensures.answered c.length_of-long.ensures c.read-two.ensures.answered in
+    read_promised _ _ _ _ (λ i. (c.shared_slice_known-1.given i).fits)
+    (c.refused-in-Refused-answer.ensures ∙ second-refuses _ _ _ _ h _ (ap answer-of (sym two) ∙ c.in-Refused-answer.is))
 
 pub overflow_add-third_place : goal.overflow_add-third_place
 overflow_add-third_place c =
-    let at : ℕ → Reading = reading c.args.phase c.args.rec.now c.args.count in
-    let second-place : ℕ = second_place c.args.phase c.args.rec.now c.args.count c.args.place in
-    let third-place : ℕ = third_place c.args.phase c.args.rec.now c.args.count c.args.place in
-    let second_is : c.args.place + c.length_of-long.result ≡ second-place =
-    ap (λ (n : ℕ). c.args.place + n) (c.length_of-long.ensures ∙ ap length-read c.read-one.ensures.answered) in
-    let two : c.read-two.result ≡ at second-place = c.read-two.ensures.answered ∙ ap at second_is in
-    let passed-2 : (at second-place).answer ≡ Passed = ap answer-of (sym two) ∙ c.in_default-answer.is in
-    let third-is : c.args.place + c.length_of-long.result + c.length_of-long-2.result ≡ third-place =
-    ap₂ (λ (p n : ℕ). p + n) second_is (c.length_of-long-2.ensures ∙ ap length-read two) in
-    let room-2 : c.args.place + c.length_of-long.result + c.length_of-long-2.result ≤ bit_limit =
-    omega (arith, third-is, read_fits _ _ _ _ passed-2, (read_passes _ _ _ _ passed-2).short_enough) in
-    omega (arith, room-2)
+    let q = c.args in
+    let two = two-is q.phase q.rec.now q.count q.place c.read-one.ensures.answered c.length_of-long.ensures c.read-two.ensures.answered in
+    let p = second_place q.phase q.rec.now q.count q.place in
+    let h = passes q.phase q.rec.now q.count q.place p two c.in_default-answer.is in
+    let third = third-is q.phase q.rec.now q.count q.place c.read-one.ensures.answered c.length_of-long.ensures c.read-two.ensures.answered c.length_of-long-2.ensures in
+    omega (arith, near q.phase q.rec.now q.count q.place p third h)
 
 pub returns-in-Refused-tested : goal.returns-in-Refused-tested
 returns-in-Refused-tested c =
-    let at : ℕ → Reading = reading c.args.phase c.args.rec.now c.args.count in
-    let second-place : ℕ = second_place c.args.phase c.args.rec.now c.args.count c.args.place in
-    let third-place : ℕ = third_place c.args.phase c.args.rec.now c.args.count c.args.place in
-    let below : (i : ℕ) → get_or c.args.rec.now i 0 < 256 = λ i. (c.shared_slice_known-1.given i).fits in
-    let passed : (at c.args.place).answer ≡ Passed = ap answer-of (sym c.read-one.ensures.answered) ∙ c.in_default.is in
-    let second_is : c.args.place + c.length_of-long.result ≡ second-place =
-    ap (λ (n : ℕ). c.args.place + n) (c.length_of-long.ensures ∙ ap length-read c.read-one.ensures.answered) in
-    let two : c.read-two.result ≡ at second-place = c.read-two.ensures.answered ∙ ap at second_is in
-    let passed-2 : (at second-place).answer ≡ Passed = ap answer-of (sym two) ∙ c.in_default-answer.is in
-    let third-is : c.args.place + c.length_of-long.result + c.length_of-long-2.result ≡ third-place =
-    ap₂ (λ (p n : ℕ). p + n) second_is (c.length_of-long-2.ensures ∙ ap length-read two) in
-    let three : c.read-three.result ≡ at third-place = c.read-three.ensures.answered ∙ ap at third-is in
-    let made : Set =
-    record { first = c.read-one.result.content; second = c.read-two.result.content; third = c.read-three.result.content } in
-    let set : Set = set_at c.args.phase c.args.rec.now c.args.count c.args.place in
-    let same : made ≡ set =
-    λ i. record { first = (c.read-one.ensures.answered i).content; second = (two i).content; third = (three i).content } in
-    let tests : (a : Answer) → c.first-tested.result ≡ a → beside_set a set ≡ set_reading c.args.phase c.args.rec.now c.args.count c.args.place =
-    λ a e. last_tested c.args.phase c.args.rec.now c.args.count c.args.place passed passed-2 a
-    (sym (ap₂ ◌then◌ (ap answer-of three) (c.set_tests-together.ensures ∙ ap set_tests same)) ∙ sym c.first-tested.ensures ∙ e) in
-    read_promised _ _ _ _ below (c.refused-in-Refused-tested.ensures ∙ tests (Refused _) c.in-Refused-tested.is)
+    let q = c.args in
+    let told =
+    tests q.phase q.rec.now q.count q.place c.read-one.ensures.answered c.length_of-long.ensures c.read-two.ensures.answered c.length_of-long-2.ensures
+    c.read-three.ensures.answered c.first-tested.ensures c.set_tests-together.ensures c.in_default.is c.in_default-answer.is in
+    read_promised _ _ _ _ (λ i. (c.shared_slice_known-1.given i).fits)
+    (c.refused-in-Refused-tested.ensures ∙ told (Refused _) c.in-Refused-tested.is)
 
 pub returns-in-Passed : goal.returns-in-Passed
 returns-in-Passed c =
-    let at : ℕ → Reading = reading c.args.phase c.args.rec.now c.args.count in
-    let second-place : ℕ = second_place c.args.phase c.args.rec.now c.args.count c.args.place in
-    let third-place : ℕ = third_place c.args.phase c.args.rec.now c.args.count c.args.place in
-    let below : (i : ℕ) → get_or c.args.rec.now i 0 < 256 = λ i. (c.shared_slice_known-1.given i).fits in
-    let passed : (at c.args.place).answer ≡ Passed = ap answer-of (sym c.read-one.ensures.answered) ∙ c.in_default.is in
-    let second_is : c.args.place + c.length_of-long.result ≡ second-place =
-    ap (λ (n : ℕ). c.args.place + n) (c.length_of-long.ensures ∙ ap length-read c.read-one.ensures.answered) in
-    let two : c.read-two.result ≡ at second-place = c.read-two.ensures.answered ∙ ap at second_is in
-    let passed-2 : (at second-place).answer ≡ Passed = ap answer-of (sym two) ∙ c.in_default-answer.is in
-    let third-is : c.args.place + c.length_of-long.result + c.length_of-long-2.result ≡ third-place =
-    ap₂ (λ (p n : ℕ). p + n) second_is (c.length_of-long-2.ensures ∙ ap length-read two) in
-    let three : c.read-three.result ≡ at third-place = c.read-three.ensures.answered ∙ ap at third-is in
-    let made : Set =
-    record { first = c.read-one.result.content; second = c.read-two.result.content; third = c.read-three.result.content } in
-    let set : Set = set_at c.args.phase c.args.rec.now c.args.count c.args.place in
-    let same : made ≡ set =
-    λ i. record { first = (c.read-one.ensures.answered i).content; second = (two i).content; third = (three i).content } in
-    let tests : (a : Answer) → c.first-tested.result ≡ a → beside_set a set ≡ set_reading c.args.phase c.args.rec.now c.args.count c.args.place =
-    λ a e. last_tested c.args.phase c.args.rec.now c.args.count c.args.place passed passed-2 a
-    (sym (ap₂ ◌then◌ (ap answer-of three) (c.set_tests-together.ensures ∙ ap set_tests same)) ∙ sym c.first-tested.ensures ∙ e) in
-    read_promised _ _ _ _ below (ap (λ (x : Set). beside_set Passed x) same ∙ tests Passed c.in-Passed.is)
+    let q = c.args in
+    let told =
+    tests q.phase q.rec.now q.count q.place c.read-one.ensures.answered c.length_of-long.ensures c.read-two.ensures.answered c.length_of-long-2.ensures
+    c.read-three.ensures.answered c.first-tested.ensures c.set_tests-together.ensures c.in_default.is c.in_default-answer.is in
+    let alike = same q.phase q.rec.now q.count q.place c.read-one.ensures.answered c.length_of-long.ensures c.read-two.ensures.answered c.length_of-long-2.ensures c.read-three.ensures.answered in
+    read_promised _ _ _ _ (λ i. (c.shared_slice_known-1.given i).fits)
+    (ap (λ (x : Set). beside_set Passed x) alike ∙ told Passed c.in-Passed.is)

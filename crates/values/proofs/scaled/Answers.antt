@@ -71,22 +71,15 @@ returns-then-k-eq0 c =
     (none (OutOfRange c.args.field) _)
 
 pub overflow_sub-i : goal.overflow_sub-i
-overflow_sub-i c =
-    let power-there : power_of c.args.r.kind c.args.field ≡ 0 → ⊥ = λ e. c.if-k-eq0.false (c.power_of-k.ensures ∙ e) in
-    let inside : (10 ≤ c.args.field) × (c.args.field - 10 < places) = powered c.args.r.kind c.args.field power-there in
-    inside.0
+overflow_sub-i c = (powered c.args.r.kind c.args.field (λ e. c.if-k-eq0.false (c.power_of-k.ensures ∙ e))).0
 
 pub offset_bounds-numbers-i : goal.offset_bounds-numbers-i
 offset_bounds-numbers-i c =
-    let power-there : power_of c.args.r.kind c.args.field ≡ 0 → ⊥ = λ e. c.if-k-eq0.false (c.power_of-k.ensures ∙ e) in
-    let inside : (10 ≤ c.args.field) × (c.args.field - 10 < places) = powered c.args.r.kind c.args.field power-there in
+    let inside = powered c.args.r.kind c.args.field (λ e. c.if-k-eq0.false (c.power_of-k.ensures ∙ e)) in
     record { fits = omega (arith, inside.1) }
 
 pub bounds-numbers-i : goal.bounds-numbers-i
-bounds-numbers-i c =
-    let power-there : power_of c.args.r.kind c.args.field ≡ 0 → ⊥ = λ e. c.if-k-eq0.false (c.power_of-k.ensures ∙ e) in
-    let inside : (10 ≤ c.args.field) × (c.args.field - 10 < places) = powered c.args.r.kind c.args.field power-there in
-    inside.1
+bounds-numbers-i c = (powered c.args.r.kind c.args.field (λ e. c.if-k-eq0.false (c.power_of-k.ensures ∙ e))).1
 
 pub scale-requires : goal.scale-requires
 scale-requires c =

@@ -1,37 +1,25 @@
 -- `writing::put_string`: each piece joins those before it, and the check bits are those of all bits put so far. Assumes nothing.
 use mathlib.Core.Path.{◌≡◌, ◌∙◌}
-use Prim.Native.Nat.{◌+◌, ◌≤◌}
+use Prim.Native.Nat.{◌≤◌}
 use native.Mathlib.Omega.{arith}
 use lib.ListN.{length}
 use borrow.Author.Rules.{rules}
 use Rattle.bits.proofs.Bytes.{length-unpack}
-use Rattle.format.specs.Fields.{total}
-use Rattle.format.specs.Types.{places_of}
 use Rattle.format.proofs.Information.{string-filled, raw_few}
 use Rattle.format.proofs.Writing.{Typed}
-use Rattle.types.proofs.Cases.{length-least, check_few}
+use Rattle.types.proofs.Cases.{length-least, check_few, parted}
 use Rattle.fields.proofs.Coding.{tested}
 use Rattle.writing.proofs.Strings.{check-lt, service-lt, fields_pass, string-put}
 use Rattle.writing.proofs.put_string.Goals as goal
 
 pub overflow_sub-count : goal.overflow_sub-count
-overflow_sub-count c =
-    let k = c.args.r.kind in
-    omega (arith, string-filled k, c.check_count-degree.ensures, c.requires.1)
+overflow_sub-count c = omega (arith, string-filled c.args.r.kind, c.check_count-degree.ensures, c.requires.1)
 
 pub overflow_add-to : goal.overflow_add-to
-overflow_add-to c =
-    let near : c.args.offset ≤ 7 = omega (arith, c.requires.0) in
-    let short : c.args.long ≤ 375 = (length-least _ _ c.requires.1).1 in
-    let pieces : 50 + total (places_of c.args.r.kind) + c.raw_count-n.result + c.check_count-degree.result ≡ c.args.long =
-    omega (arith, string-filled c.args.r.kind, c.check_count-degree.ensures, c.raw_count-n.ensures, c.requires.1) in
-    omega (arith, pieces, short, near)
+overflow_add-to c = omega (arith, parted c.args.r.kind c.raw_count-n.ensures c.check_count-degree.ensures c.requires.1, (length-least _ _ c.requires.1).1, c.requires.0)
 
 pub overflow_sub-to : goal.overflow_sub-to
-overflow_sub-to c =
-    let pieces : 50 + total (places_of c.args.r.kind) + c.raw_count-n.result + c.check_count-degree.result ≡ c.args.long =
-    omega (arith, string-filled c.args.r.kind, c.check_count-degree.ensures, c.raw_count-n.ensures, c.requires.1) in
-    omega (arith, pieces)
+overflow_sub-to c = omega (arith, parted c.args.r.kind c.raw_count-n.ensures c.check_count-degree.ensures c.requires.1)
 
 pub service-requires : goal.service-requires
 service-requires c = fields_pass _ c.requires.3
@@ -41,55 +29,35 @@ overflow_add-service c = let x = service-lt _ _ c.service.ensures in omega arith
 
 pub put_field-requires : goal.put_field-requires
 put_field-requires c =
-    let near : c.args.offset ≤ 7 = omega (arith, c.requires.0) in
-    let pieces : 50 + total (places_of c.args.r.kind) + c.raw_count-n.result + c.check_count-degree.result ≡ c.args.long =
-    omega (arith, string-filled c.args.r.kind, c.check_count-degree.ensures, c.raw_count-n.ensures, c.requires.1) in
+    let p = parted c.args.r.kind c.raw_count-n.ensures c.check_count-degree.ensures c.requires.1 in
     let x = service-lt _ _ c.service.ensures in
-    (omega arith, omega arith, omega (arith, pieces, c.requires.2), omega (arith, near))
+    (omega arith, omega arith, omega (arith, p, c.requires.2), omega (arith, c.requires.0))
 
 pub put_numbers-requires : goal.put_numbers-requires
 put_numbers-requires c =
-    let pieces : 50 + total (places_of c.args.r.kind) + c.raw_count-n.result + c.check_count-degree.result ≡ c.args.long =
-    omega (arith, string-filled c.args.r.kind, c.check_count-degree.ensures, c.raw_count-n.ensures, c.requires.1) in
-    record { ends = (omega (arith, pieces), omega (arith, pieces, c.requires.2)); tested = tested c.args.r c.requires.3 }
+    let p = parted c.args.r.kind c.raw_count-n.ensures c.check_count-degree.ensures c.requires.1 in
+    record { ends = (omega (arith, p), omega (arith, p, c.requires.2)); tested = tested c.args.r c.requires.3 }
 
 pub put_raw-requires : goal.put_raw-requires
 put_raw-requires c =
-    let near : c.args.offset ≤ 7 = omega (arith, c.requires.0) in
-    let short : c.args.long ≤ 375 = (length-least _ _ c.requires.1).1 in
-    let pieces : 50 + total (places_of c.args.r.kind) + c.raw_count-n.result + c.check_count-degree.result ≡ c.args.long =
-    omega (arith, string-filled c.args.r.kind, c.check_count-degree.ensures, c.raw_count-n.ensures, c.requires.1) in
-    (omega (arith, c.raw_count-n.ensures, raw_few c.args.r.kind), omega (arith, pieces, c.requires.2), omega (arith, pieces, short, near))
+    let p = parted c.args.r.kind c.raw_count-n.ensures c.check_count-degree.ensures c.requires.1 in
+    (omega (arith, c.raw_count-n.ensures, raw_few c.args.r.kind), omega (arith, p, c.requires.2), omega (arith, p, (length-least _ _ c.requires.1).1, c.requires.0))
 
 pub check-c-requires : goal.check-c-requires
 check-c-requires c =
-    let near : c.args.offset ≤ 7 = omega (arith, c.requires.0) in
-    let short : c.args.long ≤ 375 = (length-least _ _ c.requires.1).1 in
-    let pieces : 50 + total (places_of c.args.r.kind) + c.raw_count-n.result + c.check_count-degree.result ≡ c.args.long =
-    omega (arith, string-filled c.args.r.kind, c.check_count-degree.ensures, c.raw_count-n.ensures, c.requires.1) in
-    (omega (arith, pieces), omega (arith, pieces, c.requires.2), omega (arith, pieces, short, near))
+    let p = parted c.args.r.kind c.raw_count-n.ensures c.check_count-degree.ensures c.requires.1 in
+    (omega (arith, p), omega (arith, p, c.requires.2), omega (arith, p, (length-least _ _ c.requires.1).1, c.requires.0))
 
 pub overflow_add-offset-2 : goal.overflow_add-offset-2
-overflow_add-offset-2 c =
-    let near : c.args.offset ≤ 7 = omega (arith, c.requires.0) in
-    let short : c.args.long ≤ 375 = (length-least _ _ c.requires.1).1 in
-    let pieces : 50 + total (places_of c.args.r.kind) + c.raw_count-n.result + c.check_count-degree.result ≡ c.args.long =
-    omega (arith, string-filled c.args.r.kind, c.check_count-degree.ensures, c.raw_count-n.ensures, c.requires.1) in
-    omega (arith, pieces, short, near)
+overflow_add-offset-2 c = omega (arith, parted c.args.r.kind c.raw_count-n.ensures c.check_count-degree.ensures c.requires.1, (length-least _ _ c.requires.1).1, c.requires.0)
 
 pub put_field-requires-2 : goal.put_field-requires-2
 put_field-requires-2 c =
-    let near : c.args.offset ≤ 7 = omega (arith, c.requires.0) in
-    let short : c.args.long ≤ 375 = (length-least _ _ c.requires.1).1 in
     let few : c.check_count-degree.result ≤ 24 = omega (arith, c.check_count-degree.ensures, check_few c.args.r.kind) in
-    let pieces : 50 + total (places_of c.args.r.kind) + c.raw_count-n.result + c.check_count-degree.result ≡ c.args.long =
-    omega (arith, string-filled c.args.r.kind, c.check_count-degree.ensures, c.raw_count-n.ensures, c.requires.1) in
-    let same-room : length c.put_raw.new.part ≡ length c.args.part.now =
-    c.part-3-1.given ∙ c.part-2-1.given
-    ∙ c.part-1.given in
-    let p = pieces in
-    let f = few in
-    (omega arith, check-lt _ _ _ _ c.check-c.ensures c.check_count-degree.ensures, omega (arith, c.requires.2, same-room), omega (arith, short, near))
+    let p = parted c.args.r.kind c.raw_count-n.ensures c.check_count-degree.ensures c.requires.1 in
+    let same : length c.put_raw.new.part ≡ length c.args.part.now = c.part-3-1.given ∙ c.part-2-1.given ∙ c.part-1.given in
+    let small = check-lt _ _ _ _ c.check-c.ensures c.check_count-degree.ensures in
+    (omega arith, small, omega (arith, p, c.requires.2, same), omega (arith, p, (length-least _ _ c.requires.1).1, c.requires.0))
 
 pub returns : goal.returns
 returns c =
