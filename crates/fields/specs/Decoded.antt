@@ -11,7 +11,7 @@ use Rattle.fields.specs.declared.Numbers.{Numbers}
 abbrev pub number_of : Bool → ℕ → ℕ → ℤ
 number_of signed width x = cond signed (signed_of (bits width x)) (pos x)
 
--- The bit of the minus_zero_lem mark for a field of `width` bits at the place i of the record.
+-- The bit of the minus-zero mark for a field of `width` bits at the place i of the record.
 abbrev pub mark_bit : Bool → ℕ → ℕ → ℕ → ℕ
 mark_bit signed width x i = bit (signed && is_minus_zero (bits width x)) * 2 ^ i
 

@@ -6,7 +6,7 @@ ghost use Rattle.list.specs.Input.{CameIn};
 
 use std::env::{Env, FillError};
 use std::io::{ErrorKind, Read};
-use std::{io, thread};
+use std::thread;
 
 // How often in a row input that is not there yet is asked for again: for about a minute.
 const PATIENCE: usize = 67108864;
@@ -19,8 +19,8 @@ pub enum Input {
 }
 
 // Says on standard error what is wrong.
-fn complain(rt: &impl Eprint, text: &str) -> io::Result<()> {
-    rt.eprintln(text)
+fn complain(rt: &impl Eprint, text: &str) {
+    let _ = rt.eprintln(text);
 }
 
 // Reads from the input once. Where nothing is there yet, as on a pipe that does not wait, or a signal came between, it reads again.
@@ -60,18 +60,17 @@ fn read_input<R: Read>(input: &mut R, buf: &mut [u8]) -> Input
 }
 
 // Prints the report of a recording.
-fn print_report(rt: &(impl Print + Eprint), rec: &[u8]) -> io::Result<()> {
+fn print_report(rt: &(impl Print + Eprint), rec: &[u8]) {
     let mut out = [0u8; report::REPORT];
     let m = report::report(rec, &mut out);
-    match rt.write_all(&out[0..m]) {
-        Ok(()) => Ok(()),
-        Err(_) => complain(rt, "list: the output can't be written"),
+    if rt.write_all(&out[0..m]).is_err() {
+        complain(rt, "list: the output can't be written");
     }
 }
 
 // Lists the recording on standard input. Of more bytes than a recording may have it reads one too many and no more; what it prints then is
 // the same for every input that begins with them (`report::report`).
-fn list_input(rt: &HostRuntime) -> io::Result<()> {
+fn list_input(rt: &HostRuntime) {
     let mut rec = [0u8; report::BYTES];
     let read = read_input(&mut rt.stdin(), &mut rec);
     match read {
@@ -85,13 +84,13 @@ fn has_argument(rt: &impl Env) -> bool {
     !matches!(rt.arg(1, &mut [0u8; 1]), Err(FillError::NotPresent))
 }
 
-// Only where the complaint itself can't be written does it end with an error.
-fn main(rt: HostRuntime) -> io::Result<()> {
+fn main(rt: HostRuntime) {
     if has_argument(&rt) {
-        return complain(
+        complain(
             &rt,
             "list: it takes no arguments; the recording's bytes come on standard input",
         );
+    } else {
+        list_input(&rt);
     }
-    list_input(&rt)
 }

@@ -1,4 +1,4 @@
--- Laws of the tests of places that are not used and of the minus_zero_lem mark. Assumes nothing.
+-- Laws of the tests of places that are not used and of the minus-zero mark. Assumes nothing.
 use mathlib.Core.Path.{◌≡◌, refl, sym, ap, ◌∙◌}
 use mathlib.Core.Bool.{Bool, true, false, cond, not, ◌&&◌, ◌||◌}
 use mathlib.Core.List.{List, map}

@@ -22,7 +22,7 @@ pub data Example : Type 0 where
   listing_is : (bytes : List ℕ) (count room number value : ℕ) → Example
   -- the reading at a place: the number and the value that it answers
   reading_is : (bytes : List ℕ) (count place number value : ℕ) → Example
-  -- the reading at a place answers 0 and 0: the number in a field of the record, by the field's number, and the whole minus_zero_lem mark
+  -- the reading at a place answers 0 and 0: the number in a field of the record, by the field's number, and the whole minus-zero mark
   field_is : (bytes : List ℕ) (count place field : ℕ) (value : ℤ) (minus : ℕ) → Example
   -- the writing of a record at a place of so many bits of so many bytes: the number and the value that it answers
   writing_is : (content : Record) (bytes count place number value : ℕ) → Example
@@ -60,7 +60,7 @@ check_of type from_end = number (check (generator_of type) (only_one type from_e
 abbrev pub Answers : ℕ × ℕ → ℕ → ℕ → Type 0
 Answers code number value = (code.0 ≡ number) × (code.1 ≡ value)
 
--- A reading answers 0 and 0; its record has this number in this field, and this minus_zero_lem mark.
+-- A reading answers 0 and 0; its record has this number in this field, and this minus-zero mark.
 abbrev pub Reads : Reading → ℕ → ℤ → ℕ → Type 0
 Reads found field value minus =
     Answers (answer_code found.answer) 0 0 × (count_of found.content field ≡ value) × (found.content.minus ≡ minus)
