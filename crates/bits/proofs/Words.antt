@@ -67,7 +67,8 @@ odd_ones q m h = at (q % 2) (omega arith) refl
 
     at : (r : ℕ) → r < 2 → q % 2 ≡ r → odd (2 ^ (m + 1) - 1 - q) ≡ not (odd q)
     at zero l e = let f : (2 ^ (m + 1) - 1 - q) % 2 ≡ 1 = omega (arith, double) in ap is_one f ∙ sym (ap (λ (r : ℕ). not (is_one r)) e)
-    at (suc zero) l e = let f : (2 ^ (m + 1) - 1 - q) % 2 ≡ 0 = omega (arith, double) in ap is_one f ∙ sym (ap (λ (r : ℕ). not (is_one r)) e)
+    at (suc zero) l e = let f : (2 ^ (m + 1) - 1 - q) % 2 ≡ 0 = omega (arith, double) in
+        ap is_one f ∙ sym (ap (λ (r : ℕ). not (is_one r)) e)
     at (suc (suc r)) l e = absurd (omega arith)
 
 shr_ones : (x j k : ℕ) → x < 2 ^ (j + k) → (2 ^ (j + k) - 1 - x) / 2 ^ k ≡ 2 ^ j - 1 - x / 2 ^ k

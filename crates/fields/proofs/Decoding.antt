@@ -52,7 +52,8 @@ pub record ReadSoFar (u : List Bool) (from kind : ℕ) (numbers : List ℤ) (min
   pub place : at + total (drop i (places_of kind)) ≡ from + total (places_of kind)
   pub filled : put i (values (drop i (places_of kind)) (drop at u)) numbers ≡ values (places_of kind) (drop from u)
   pub rest : drop i numbers ≡ replicate (places - i) (pos 0)
-  pub mark : minus + 2 ^ i * mark_of (minus_zeros (drop i (places_of kind)) (drop at u)) ≡ mark_of (minus_zeros (places_of kind) (drop from u))
+  pub mark : minus + 2 ^ i * mark_of (minus_zeros (drop i (places_of kind)) (drop at u))
+      ≡ mark_of (minus_zeros (places_of kind) (drop from u))
 
 pub read_start : (u : List Bool) (from kind : ℕ) → ReadSoFar u from kind (replicate places (pos 0)) 0 from 0
 read_start u from kind =

@@ -134,7 +134,8 @@ first_tells true r a m t = record { passes = refl; code = refl }
 first_tells false r a m t = t
 
 -- 7: the first field out of range
-ranges_tell : (fs : List Field) (vs : List ℤ) (n : ℕ) → Tells (ranges fs vs n) (on (refuses (ranges fs vs n)) 7 (first_outside fs vs n) ∷ [])
+ranges_tell : (fs : List Field) (vs : List ℤ) (n : ℕ)
+    → Tells (ranges fs vs n) (on (refuses (ranges fs vs n)) 7 (first_outside fs vs n) ∷ [])
 unfolding ranges first_outside returned
 ranges_tell [] vs n = record { passes = refl; code = refl }
 ranges_tell (f ∷ fs) [] n = record { passes = refl; code = refl }

@@ -312,7 +312,8 @@ module _ (s : Set) (holds : TypedSet s) (t : Together s) where
       ap (take 250) (sym (drop-drop 250 250 (set_bits s)) ∙ ap (drop 250) others-bits ∙ drop_at (string s.second) _ 250 size.1)
       ∙ cut_whole 250 (string s.third) size.2
 
-pub set-written-back : (bytes : List ℕ) (count place next : ℕ) (s : Set) → TypedSet s → set_writing (length bytes) count place s ≡ Given next
+pub set-written-back : (bytes : List ℕ) (count place next : ℕ) (s : Set) → TypedSet s
+    → set_writing (length bytes) count place s ≡ Given next
     → SetReadsBack (bytes_after (Given next) place (set_bits s) bytes) count place s
 unfolding set_writing set_write_tests member_tests
 set-written-back bytes count place next s holds e =

@@ -53,7 +53,8 @@ tests_pass bits place = (Agree.pass_stands bits place, Agree.stands_pass)
 
 -- A string that stood stands no more where a burst has changed its bits, if its type still names the same length.
 pub damaged_none : {was now : List Bool} {place long : ℕ} → Stands was place long
-    → Burst (check_bits (type_at was place)) (string_bits was place 1 long) (string_bits now place 1 long) → length_of (type_at now place) ≡ long
+    → Burst (check_bits (type_at was place)) (string_bits was place 1 long) (string_bits now place 1 long)
+    → length_of (type_at now place) ≡ long
     → (l : ℕ) → Stands now place l → ⊥
 damaged_none = Damage.damaged_none
 
@@ -138,7 +139,8 @@ pub length-set_bits : (s : Set) → TypedSet s → Together s → length (set_bi
 length-set_bits = Sets.length-set_bits
 
 -- A set that writes reads back the same, and so does each of its strings by itself.
-pub set-written-back : (bytes : List ℕ) (count place next : ℕ) (s : Set) → TypedSet s → set_writing (length bytes) count place s ≡ Given next
+pub set-written-back : (bytes : List ℕ) (count place next : ℕ) (s : Set) → TypedSet s
+    → set_writing (length bytes) count place s ≡ Given next
     → SetReadsBack (bytes_after (Given next) place (set_bits s) bytes) count place s
 set-written-back = Sets.set-written-back
 
@@ -164,7 +166,8 @@ reading-covered = Covered.reading-covered
 pub set-covered : (phase : Phase) (bytes others : List ℕ) (count place : ℕ) → length others ≡ length bytes
     → SameThere phase others bytes count place
     → ((reading phase bytes count place).answer ≡ Passed → SameThere phase others bytes count (second_place phase bytes count place))
-    → ((reading phase bytes count place).answer ≡ Passed → (reading phase bytes count (second_place phase bytes count place)).answer ≡ Passed
+    → ((reading phase bytes count place).answer ≡ Passed
+    → (reading phase bytes count (second_place phase bytes count place)).answer ≡ Passed
     → SameThere phase others bytes count (third_place phase bytes count place))
     → set_reading phase others count place ≡ set_reading phase bytes count place
 set-covered = Sets.set-covered

@@ -181,7 +181,8 @@ pub record SetReadPromise (phase : Phase) (bytes : List ℕ) (count place : ℕ)
   pub covered : (others : List ℕ) → length others ≡ length bytes
       → SameThere phase others bytes count place
       → ((reading phase bytes count place).answer ≡ Passed → SameThere phase others bytes count (second_place phase bytes count place))
-      → ((reading phase bytes count place).answer ≡ Passed → (reading phase bytes count (second_place phase bytes count place)).answer ≡ Passed
+      → ((reading phase bytes count place).answer ≡ Passed
+      → (reading phase bytes count (second_place phase bytes count place)).answer ≡ Passed
       → SameThere phase others bytes count (third_place phase bytes count place))
       → found ≡ set_reading phase others count place
 

@@ -64,7 +64,8 @@ module _ (φ : Phase) (s : List ℕ) (n p : ℕ) {a : Answer} (e : a ≡ place_t
 
 -- ---- 6, 7, 8, of what the check of the bits tells
 module _ (u : List Bool) (o place : ℕ) {t : Bool} (e : t ≡ check_passes u o) where
-  tested : {a : Answer} → when (not t) (CheckFails place) ≡ a → beside (a then field_tests (record_at u o)) (record_at u o) ≡ checked u o place
+  tested : {a : Answer} → when (not t) (CheckFails place) ≡ a
+      → beside (a then field_tests (record_at u o)) (record_at u o) ≡ checked u o place
   unfolding checked
   tested f = rw (← f, e) refl
 

@@ -15,7 +15,8 @@ refused x = record { answer = Refused x; content = blank }
 
 -- The tests 6, 7, 8 of the string at the place `at` of these bits, and its record. A refusal by 6 names the place.
 unfoldable pub checked : List Bool → (at place : ℕ) → Reading
-checked bits at place = beside (when (not (check_passes bits at)) (CheckFails place) then field_tests (record_at bits at)) (record_at bits at)
+checked bits at place = beside (when (not (check_passes bits at)) (CheckFails place) then field_tests (record_at bits at))
+    (record_at bits at)
 
 -- The tests 5, 4, 5, 6, 7, 8 of the string at a place of these bits, and its record.
 unfoldable pub string_read : List Bool → ℕ → Reading

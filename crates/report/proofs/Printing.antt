@@ -62,7 +62,8 @@ module _ (bytes : List ℕ) (p : ℕ) (h : p + 50 ≤ 8 * length bytes) where
 
   pub line_is : {service : List ℕ} {result : ℕ} → service ≡ service_numbers part (p % 8)
       → result ≡ (answer_code (reading Straight bytes (8 * length bytes) p).answer).0
-      → row (p ∷ get_or service 0 0 ∷ get_or service 1 0 ∷ get_or service 2 0 ∷ get_or service 3 0 ∷ get_or service 4 0 ∷ result ∷ []) ≡ line bytes p
+      → row (p ∷ get_or service 0 0 ∷ get_or service 1 0 ∷ get_or service 2 0 ∷ get_or service 3 0 ∷ get_or service 4 0 ∷ result ∷ [])
+      ≡ line bytes p
   unfolding line service_numbers
   line_is e r = rw (e ∙ service_part, r) refl
 

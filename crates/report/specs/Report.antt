@@ -27,13 +27,15 @@ all_bits bytes = recorded Straight bytes (8 * length bytes)
 -- Type, j, KP, A and OMB of the string at a place, straight from the bits.
 unfoldable pub service_numbers : List Bool → ℕ → List ℕ
 service_numbers bits place =
-    type_at bits place ∷ number (string_bits bits place 19 24) ∷ number (string_bits bits place 32 33) ∷ number (string_bits bits place 34 34)
+    type_at bits place ∷ number (string_bits bits place 19 24) ∷ number (string_bits bits place 32 33)
+    ∷ number (string_bits bits place 34 34)
     ∷ number (string_bits bits place 35 50) ∷ []
 
 -- The line of a start: the place; type, j, KP, A and OMB; and reading's number, 0 if read.
 unfoldable pub line : List ℕ → ℕ → List ℕ
 line bytes place =
-    row (place ∷ (service_numbers (all_bits bytes) place ++ ((answer_code (reading Straight bytes (8 * length bytes) place).answer).0 ∷ [])))
+    row (place ∷ (service_numbers (all_bits bytes) place
+    ++ ((answer_code (reading Straight bytes (8 * length bytes) place).answer).0 ∷ [])))
 
 -- A line for each start.
 unfoldable pub lines : List ℕ → List ℕ → List ℕ

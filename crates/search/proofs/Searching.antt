@@ -138,7 +138,8 @@ module _ (φ : Phase) (s : List ℕ) (n : ℕ) (h : n ≤ 8 * length s) where
       same m =
           let k : q + (0 + i) ≡ q + i = omega arith in
           string_bits_lem (bits 64 w) (0 + i) 12 ∙ ap (cut (0 + i) 12) window ∙ cut-cut (0 + i) 12 q 64 (true_bits φ s) (omega arith)
-          ∙ ap (λ (x : ℕ). cut x 12 (true_bits φ s)) k ∙ sym (cut-recorded φ (q + i) 12 n s (omega arith)) ∙ sym (string_bits_lem u (q + i) 12)
+          ∙ ap (λ (x : ℕ). cut x 12 (true_bits φ s)) k ∙ sym (cut-recorded φ (q + i) 12 n s (omega arith))
+          ∙ sym (string_bits_lem u (q + i) 12)
 
   -- `marks(word_at(rec, p / 8)) << (p % 8)`
   pub hits_at : (p w g : ℕ) → p + 64 ≤ n → w ≡ number (cut (8 * (p / 8)) 64 (true_bits φ s)) → Hits (bits 64 w) 0 53 g

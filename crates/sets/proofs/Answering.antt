@@ -134,7 +134,8 @@ refuses bytes count place s x e =
     }
 
 -- where all tests pass: the promise is kept by any bytes that are those of the definition
-pub writes : (bytes : List ℕ) (count place : ℕ) (s : Set) → TypedSet s → Given (place + set_length) ≡ set_writing (length bytes) count place s
+pub writes : (bytes : List ℕ) (count place : ℕ) (s : Set) → TypedSet s
+    → Given (place + set_length) ≡ set_writing (length bytes) count place s
     → (after : List ℕ) → after ≡ with_bits place (set_bits s) bytes → SetWritePromise bytes count place s (Given (place + set_length)) after
 writes bytes count place s holds e after left =
     let back = subst (λ (b : List ℕ). SetReadsBack b count place s) (sym left)

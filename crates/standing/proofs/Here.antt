@@ -84,7 +84,8 @@ frame_standing u p =
     ∙ length_by (frame_at u p) p (check_passes u p) (length_of (type_at u p)) (λ k m e. (framed_says u p k m (sym e)).1)
 
 -- what stands, of a frame that the code found to be g
-pub frame_length : (u : List Bool) (p : ℕ) {f : Frame} (g : Frame) → f ≡ frame_at u p → f ≡ g → length_if g (check_passes u p) ≡ standing u p
+pub frame_length : (u : List Bool) (p : ℕ) {f : Frame} (g : Frame) → f ≡ frame_at u p → f ≡ g
+    → length_if g (check_passes u p) ≡ standing u p
 frame_length u p g e k = ap (λ (x : Frame). length_if x (check_passes u p)) (sym k ∙ e) ∙ sym (frame_standing u p)
 
 not-begins : (b : Bool) → (b ≡ true → ⊥) → b ≡ false
@@ -142,7 +143,8 @@ module _ (φ : Phase) (s : List ℕ) (n p : ℕ) (h : n ≤ 8 * length s) where
       length-here : long ≡ length_of (type_at u p)
       length-here = el ∙ ap length_of head_kind
 
-      framed_by : (f : Frame) → cond (above (p + length_of (type_at u p)) (length u)) Beyond (Framed (type_at u p) (length_of (type_at u p))) ≡ f
+      framed_by : (f : Frame)
+          → cond (above (p + length_of (type_at u p)) (length u)) Beyond (Framed (type_at u p) (length_of (type_at u p))) ≡ f
           → f ≡ frame_at u p
       unfolding frame_at
       framed_by f e = simp (le-ltb (length u) (p + 18) (omega (arith, length_u)), (begins-mark u p).1 (head_mark.1 z)) (sym e)

@@ -7,7 +7,8 @@ use native.Mathlib.Omega.{arith}
 use lib.Dec.{T, leb, ltb, le→leb, lt→ltb}
 use lib.IntN.{ℤ, pos, negsuc, nat_abs}
 use lib.Pow.{pow-add, pow_pos, pow_mono, shl_lt}
-use lib.Ieee.{Float, nan, inf, fin, binary64, up, down, unlike, round, mul, of_int, in_float, of_bits, to_bits, fits, is_nan, nan_bits, size}
+use lib.Ieee.{Float, nan, inf, fin, binary64, up, down, unlike, round}
+use lib.Ieee.{mul, of_int, in_float, of_bits, to_bits, fits, is_nan, nan_bits, size}
 use lib.Ieee.Fits.{down_pos, mul-fits, and_i}
 use lib.Ieee.Bits.{of_bits-to_bits, nan_bits_is}
 use lib.Ieee.Exact.{HasValue, round_exact}

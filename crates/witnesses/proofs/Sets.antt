@@ -36,8 +36,8 @@ unfolding worked_bytes put cut set_bits string checked service_bits content_bits
 worked_bytes_lem = refl
 
 worked-writes : set_writing (length lent) 753 3 worked ≡ Given 753
-unfolding when ◌then◌ set_writing set_write_tests count_tests place_tests member_tests set_tests record_tests field_tests ranges in_range unused
-    overfilled stray mark_bits mark_of places_of raw_count length_of generator_of
+unfolding when ◌then◌ set_writing set_write_tests count_tests place_tests member_tests set_tests record_tests field_tests ranges in_range
+    unused overfilled stray mark_bits mark_of places_of raw_count length_of generator_of
 worked-writes = refl
 
 holds : TypedSet worked
@@ -61,27 +61,28 @@ abbrev around : ℕ → List ℕ
 around x = x ∷ (worked_bytes ++ (x ∷ []))
 
 pub around_alike : set_reading Straight (around 255) 776 11 ≡ set_reading Straight (around 0) 776 11
-unfolding worked_bytes covered_bytes reading recorded cut string_bits type_at length_of generator_of remainder check_passes string_tests count_tests
-    place_tests when ◌then◌ field_tests ranges in_range record_at information_bits values minus_zeros mark_of places_of raw_count put pack filled
+unfolding worked_bytes covered_bytes reading recorded cut string_bits type_at length_of generator_of remainder check_passes string_tests
+    count_tests place_tests when ◌then◌ field_tests ranges in_range record_at information_bits values minus_zeros mark_of places_of
+    raw_count put pack filled
 around_alike = set-covered Straight (around 0) (around 255) 776 11 refl refl (λ one. refl) (λ one two. refl)
 
 pub around_reads : (set_reading Straight (around 0) 776 11).answer ≡ Passed
-unfolding worked_bytes set_reading set_tests reading recorded cut string_bits type_at length_of generator_of remainder check_passes string_tests
-    count_tests place_tests when ◌then◌ field_tests ranges in_range record_at information_bits values minus_zeros mark_of places_of raw_count put pack
-    filled
+unfolding worked_bytes set_reading set_tests reading recorded cut string_bits type_at length_of generator_of remainder check_passes
+    string_tests count_tests place_tests when ◌then◌ field_tests ranges in_range record_at information_bits values minus_zeros mark_of
+    places_of raw_count put pack filled
 around_reads = refl
 
 -- ---- what writing sets answers
 
 pub writings-answer : map (λ w. outcome_code (set_writing 95 w.1 3 w.0)) writings ≡ map (λ w. w.2) writings
-unfolding when ◌then◌ set_writing set_write_tests count_tests place_tests member_tests set_tests record_tests field_tests ranges in_range unused
-    overfilled stray mark_bits mark_of places_of raw_count length_of generator_of
+unfolding when ◌then◌ set_writing set_write_tests count_tests place_tests member_tests set_tests record_tests field_tests ranges in_range
+    unused overfilled stray mark_bits mark_of places_of raw_count length_of generator_of
 writings-answer = refl
 
 -- ---- where the strings of a set are looked for
 
 pub unlike_answer : map (λ r. answer_code (set_reading Straight unlike_bytes r.0 0).answer) unlike_readings ≡ map (λ r. r.1) unlike_readings
-unfolding unlike_bytes set_reading set_tests reading recorded cut string_bits type_at length_of generator_of remainder check_passes string_tests
-    count_tests place_tests when ◌then◌ field_tests ranges in_range record_at information_bits values minus_zeros mark_of places_of raw_count put pack
-    filled
+unfolding unlike_bytes set_reading set_tests reading recorded cut string_bits type_at length_of generator_of remainder check_passes
+    string_tests count_tests place_tests when ◌then◌ field_tests ranges in_range record_at information_bits values minus_zeros mark_of
+    places_of raw_count put pack filled
 unlike_answer = refl

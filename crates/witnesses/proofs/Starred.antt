@@ -50,7 +50,8 @@ same_field_lem found field value minus t =
 sound : (e : Example) → holds e ≡ true → Says e
 sound (check_is type from_end value) t = eqb-true (check_of type from_end) value t
 sound (listing_is bytes count room number value) t = same_answer_lem (outcome_code (listing Straight bytes count room)) number value t
-sound (reading_is bytes count place number value) t = same_answer_lem (answer_code (reading Straight bytes count place).answer) number value t
+sound (reading_is bytes count place number value) t = same_answer_lem (answer_code (reading Straight bytes count place).answer) number
+    value t
 sound (field_is bytes count place field value minus) t = same_field_lem (reading Straight bytes count place) field value minus t
 sound (writing_is r bytes count place number value) t = same_answer_lem (outcome_code (writing bytes count place r)) number value t
 sound (days_is n4 nt number value) t = same_answer_lem (outcome_code (day_count n4 nt)) number value t
@@ -61,8 +62,9 @@ all_sound (e ∷ es) t = let u = (and-eq-true_iff (holds e) (all_hold es)).0 t i
 
 test : all_hold rows ≡ true
 unfolding check remainder list_answer recorded starts scan field_tests ranges in_range places_of when ◌then◌ reading count_tests place_tests
-    string_tests record_at string_bits cut type_at writing write_tests record_tests day_count unused overfilled stray mark_bits raw_count length_of
-    generator_of check_passes information_bits values minus_zeros mark_of count_of tb959 tb960 omb43199 omb43200 factors rate_of_xp
+    string_tests record_at string_bits cut type_at writing write_tests record_tests day_count unused overfilled stray mark_bits raw_count
+    length_of generator_of check_passes information_bits values minus_zeros mark_of count_of tb959 tb960 omb43199 omb43200 factors
+    rate_of_xp
 test = refl
 
 -- Every starred example holds.

@@ -18,8 +18,8 @@ use Rattle.witnesses.specs.Values.{Pattern, patterns, position}
 
 pub given : map (λ (p : Pattern). scaling p.content p.field) patterns
     ≡ map (λ (p : Pattern). Number (of_bits binary64 p.bits)) patterns
-unfolding scaling power_of count_of scaled_bits digit_bits size of_bits when ◌then◌ record_tests field_tests ranges in_range unused overfilled
-    stray mark_bits places_of raw_count length_of generator_of
+unfolding scaling power_of count_of scaled_bits digit_bits size of_bits when ◌then◌ record_tests field_tests ranges in_range unused
+    overfilled stray mark_bits places_of raw_count length_of generator_of
 given = refl
 
 pub same_bits : map (λ (p : Pattern). to_bits binary64 (value_code (scaling p.content p.field)).2) patterns
@@ -33,8 +33,8 @@ abbrev powerless : List ℕ
 powerless = 0 ∷ 1 ∷ 9 ∷ 16 ∷ 17 ∷ 26 ∷ []
 
 pub no_power : map (scaling (position (pos 1) 0)) powerless ≡ map (λ n. NoValue (OutOfRange n)) powerless
-unfolding scaling power_of count_of when ◌then◌ record_tests field_tests ranges in_range unused overfilled stray mark_bits places_of raw_count
-    length_of generator_of
+unfolding scaling power_of count_of when ◌then◌ record_tests field_tests ranges in_range unused overfilled stray mark_bits places_of
+    raw_count length_of generator_of
 no_power = refl
 
 -- The ends of the table, the factor that is undefined, and the first on each side that is refused.

@@ -78,7 +78,8 @@ unfolding farthest recorded
 farthest-count = refl
 
 farthest_sure : sure (recorded Straight farthest 936) 61 (311 ∷ 686 ∷ 811 ∷ []) ≡ true
-unfolding farthest sure recorded front standing check_passes string_tests when ◌then◌ string_bits cut type_at length_of generator_of remainder
+unfolding farthest sure recorded front standing check_passes string_tests when ◌then◌ string_bits cut type_at length_of generator_of
+    remainder
 farthest_sure = refl
 
 farthest_sound : Clean (Stands (recorded Straight farthest 936)) (length (recorded Straight farthest 936)) 61 (311 ∷ 686 ∷ 811 ∷ [])

@@ -79,8 +79,8 @@ writings =
     ∷ (three (12, 11, 10) (63, 0, 62) (5, 43200, 43200), 752, (7, 2))
     ∷ []
 
--- Reading at place 0 of `unlike_bytes`: the bit count, and the number and the value that are answered. The second string is looked for where
--- the first ends, at 125, and the third where the second does, at 500.
+-- Reading at place 0 of `unlike_bytes`: the bit count, and the number and the value that are answered. The second string is looked for
+-- where the first ends, at 125, and the third where the second does, at 500.
 abbrev pub unlike_readings : List (ℕ × (ℕ × ℕ))
 unlike_readings =
     (124, (5, 0))

@@ -25,7 +25,8 @@ pub absorbed-register-requires : goal.absorbed-register-requires
 absorbed-register-requires c =
     let all : List Bool = true_bits c.args.phase c.args.bytes.now in
     let a = c.args in
-    record { table = c.requires.table; sizes = (omega arith, after-lt all 0 a.generator a.degree a.start _ _ c.loop-i.invariant.1, omega arith) }
+    let small = after-lt all 0 a.generator a.degree a.start _ _ c.loop-i.invariant.1 in
+    record { table = c.requires.table; sizes = (omega arith, small, omega arith) }
 
 pub loop-i-preserved : goal.loop-i-preserved
 loop-i-preserved c =

@@ -21,8 +21,8 @@ returns-then-rest-eq0 c =
     λ n. number (after (true_bits c.args.phase c.args.part.now) c.args.offset c.args.generator c.args.degree 0 n) in
     let come : c.bytes_after-register.result ≡ after-bits (c.args.count - end % 8) =
     let a = c.args in
-    whole_after a.phase c.args.part.now a.offset a.count a.generator a.degree c.requires.run_inside.0 c.requires.table.least c.requires.run_inside.1
-    _ _ c.byte_at.ensures.0
+    let r = c.requires in
+    whole_after a.phase a.part.now a.offset a.count a.generator a.degree r.run_inside.0 r.table.least r.run_inside.1 _ _ c.byte_at.ensures.0
     (c.bytes_after-register.ensures ∙ ap (register_after a.degree a.generator _) (true_part a.phase _ _ c.args.part.now)) in
     let e : c.args.count - end % 8 ≡ c.args.count = omega arith in
     come ∙ ap after-bits e ∙ the_remainder _ _ c.requires.table.highest _
@@ -34,8 +34,8 @@ absorbed-requires c =
     λ n. number (after (true_bits c.args.phase c.args.part.now) c.args.offset c.args.generator c.args.degree 0 n) in
     let come : c.bytes_after-register.result ≡ after-bits (c.args.count - end % 8) =
     let a = c.args in
-    whole_after a.phase c.args.part.now a.offset a.count a.generator a.degree c.requires.run_inside.0 c.requires.table.least c.requires.run_inside.1
-    _ _ c.byte_at.ensures.0
+    let r = c.requires in
+    whole_after a.phase a.part.now a.offset a.count a.generator a.degree r.run_inside.0 r.table.least r.run_inside.1 _ _ c.byte_at.ensures.0
     (c.bytes_after-register.ensures ∙ ap (register_after a.degree a.generator _) (true_part a.phase _ _ c.args.part.now)) in
     let register-lt : c.bytes_after-register.result < 2 ^ c.args.degree =
     let a = c.args in
@@ -49,11 +49,12 @@ returns c =
     λ n. number (after (true_bits c.args.phase c.args.part.now) c.args.offset c.args.generator c.args.degree 0 n) in
     let come : c.bytes_after-register.result ≡ after-bits (c.args.count - end % 8) =
     let a = c.args in
-    whole_after a.phase c.args.part.now a.offset a.count a.generator a.degree c.requires.run_inside.0 c.requires.table.least c.requires.run_inside.1
-    _ _ c.byte_at.ensures.0
+    let r = c.requires in
+    whole_after a.phase a.part.now a.offset a.count a.generator a.degree r.run_inside.0 r.table.least r.run_inside.1 _ _ c.byte_at.ensures.0
     (c.bytes_after-register.ensures ∙ ap (register_after a.degree a.generator _) (true_part a.phase _ _ c.args.part.now)) in
     let a = c.args in
-    last-after a.phase c.args.part.now a.offset a.count a.generator a.degree c.requires.run_inside.0 c.requires.table.least c.requires.run_inside.1
+    let r = c.requires in
+    last-after a.phase a.part.now a.offset a.count a.generator a.degree r.run_inside.0 r.table.least r.run_inside.1
     (end / 8) (end % 8) _ _ _
     (omega arith) (omega arith) (omega arith) c.byte_at-2.ensures.0 come c.absorbed.ensures
     ∙ the_remainder _ _ c.requires.table.highest _

@@ -34,8 +34,10 @@ bounds-signs-i c = left_here c.loop-at.invariant.1 (omega (arith, c.requires.0))
 pub field-x-requires : goal.field-x-requires
 field-x-requires c =
     let below = left_here c.loop-at.invariant.1 (omega (arith, c.requires.0)) in
-    let inside = inside_here c.loop-at.invariant.1 c.widths_of-widths.ensures c.row_of-row.ensures below in
-    (width-here c.loop-at.invariant.1 c.widths_of-widths.ensures c.row_of-row.ensures below, omega (arith, inside, c.requires.0, c.requires.1))
+    let inside = inside_here c.loop-at.invariant.1 c.widths_of-widths.ensures c.row_of-row.ensures below in (
+      width-here c.loop-at.invariant.1 c.widths_of-widths.ensures c.row_of-row.ensures below,
+      omega (arith, inside, c.requires.0, c.requires.1),
+    )
 
 pub number_of-requires : goal.number_of-requires
 number_of-requires c =
@@ -63,7 +65,8 @@ overflow_add-minus c =
     let below = left_here c.loop-at.invariant.1 (omega (arith, c.requires.0)) in
     let room = inside-part c.args.phase c.args.part.now c.args.from (total (places_of c.args.kind)) c.requires.0 c.requires.1 in
     let number = to_z-of_z {w = w64} (record { sfits = c.number_of.type_inv }) ∙ c.number_of.ensures in
-    let more = read_on c.loop-at.invariant.1 c.widths_of-widths.ensures c.row_of-row.ensures below room c.field-x.ensures number c.mark_bit-minus.ensures in
+    let more = read_on c.loop-at.invariant.1 c.widths_of-widths.ensures c.row_of-row.ensures below room c.field-x.ensures number
+    c.mark_bit-minus.ensures in
     record { fits = mark-fits more }
 
 pub overflow_add-at : goal.overflow_add-at
@@ -82,7 +85,8 @@ loop-at-preserved c =
     let below = left_here c.loop-at.invariant.1 (omega (arith, c.requires.0)) in
     let room = inside-part c.args.phase c.args.part.now c.args.from (total (places_of c.args.kind)) c.requires.0 c.requires.1 in
     let number = to_z-of_z {w = w64} (record { sfits = c.number_of.type_inv }) ∙ c.number_of.ensures in
-    let more = read_on c.loop-at.invariant.1 c.widths_of-widths.ensures c.row_of-row.ensures below room c.field-x.ensures number c.mark_bit-minus.ensures in
+    let more = read_on c.loop-at.invariant.1 c.widths_of-widths.ensures c.row_of-row.ensures below room c.field-x.ensures number
+    c.mark_bit-minus.ensures in
     (omega (arith, below), more)
 
 pub returns : goal.returns

@@ -54,12 +54,18 @@ hold-held-requires c =
     let room = room-here c.loop-at.invariant.5 c.widths_of-widths.ensures c.row_of-row.ensures below in
     let seen = odd_seen c.loop-at.marks in
     let small = x_fits c.loop-at.invariant.5 c.widths_of-widths.ensures c.row_of-row.ensures below long number seen c.code-x.ensures in
-    let on = c.loop-at.invariant.4 in record { held_fits = (c.loop-at.invariant.2, c.loop-at.invariant.3, narrow, small); room = (omega (arith, room, on, c.requires.ends.0, c.requires.ends.1), omega (arith, room, on, c.requires.ends.0)) }
+    let v = c.loop-at.invariant in
+    let ends = c.requires.ends in
+    record {
+      held_fits = (v.2, v.3, narrow, small);
+      room = (omega (arith, room, v.4, ends.0, ends.1), omega (arith, room, v.4, ends.0));
+    }
 
 pub overflow_add-at : goal.overflow_add-at
 overflow_add-at c =
     let below = left_here c.loop-at.invariant.5 (omega (arith, c.requires.ends.0)) in
-    record { fits = omega (arith, room-here c.loop-at.invariant.5 c.widths_of-widths.ensures c.row_of-row.ensures below, c.requires.ends.0) }
+    let room = room-here c.loop-at.invariant.5 c.widths_of-widths.ensures c.row_of-row.ensures below in
+    record { fits = omega (arith, room, c.requires.ends.0) }
 
 pub loop-at-smaller : goal.loop-at-smaller
 loop-at-smaller c =
@@ -74,14 +80,15 @@ loop-at-preserved c =
     let e = c.hold-held.ensures in
     let code = c.code-x.ensures in
     let z = put-at-same _ _ c.loop-at.invariant.4 e.bits_put in
-    let on = written_on c.loop-at.invariant.5 c.widths_of-widths.ensures c.row_of-row.ensures below long number (odd_seen c.loop-at.marks) code z in
+    let seen = odd_seen c.loop-at.marks in
+    let on = written_on c.loop-at.invariant.5 c.widths_of-widths.ensures c.row_of-row.ensures below long number seen code z in
     (omega (arith, below), search rules, e.holds.1, e.holds.2, omega (arith, e.holds.0, c.loop-at.invariant.4), on)
 
 pub put_field-requires : goal.put_field-requires
 put_field-requires c =
-    let p = c.loop-at.invariant.5.place in
-    let h = c.loop-at.invariant.4 in
-    (c.loop-at.invariant.2, c.loop-at.invariant.3, omega (arith, p, h, c.requires.ends.0, c.requires.ends.1), omega (arith, p, h, c.requires.ends.0))
+    let v = c.loop-at.invariant in
+    let ends = c.requires.ends in
+    (v.2, v.3, omega (arith, v.5.place, v.4, ends.0, ends.1), omega (arith, v.5.place, v.4, ends.0))
 
 pub returns : goal.returns
 returns c =

@@ -10,7 +10,8 @@ use Rattle.fields.proofs.put_numbers.Given as goal
 
 abbrev pub invariant-loop-at : goal.invariant-loop-at
 invariant-loop-at l =
-    (l.i ≤ places) × (length l.part ≡ length l.initial.part) × (l.held.count ≤ 64) × (l.held.word < 2 ^ l.held.count) × (l.held.at + l.held.count ≡ l.at)
+    (l.i ≤ places) × (length l.part ≡ length l.initial.part) × (l.held.count ≤ 64) × (l.held.word < 2 ^ l.held.count)
+    × (l.held.at + l.held.count ≡ l.at)
     × WrittenSoFar l.from l.kind l.minus l.numbers (unpack l.initial.part) (after_held l.held (unpack l.part)) l.at l.marks l.i
 
 abbrev pub decreases-loop-at : goal.decreases-loop-at

@@ -26,8 +26,10 @@ loop-p-smaller-then-long-eq0 c = omega (arith, c.next_mark-p.ensures.past)
 pub loop-p-preserved-then-long-eq0 : goal.loop-p-preserved-then-long-eq0
 loop-p-preserved-then-long-eq0 c =
     let q = c.args in
-    let m = c.next_mark-p.ensures in
-    (omega (arith, m.within, length-recorded q.phase q.rec.now q.count c.requires.0.in_bytes), done_skip _ q.list.now q.room _ c.loop-p.invariant.1 (sym c.standing-long.ensures ∙ c.if-long-eq0.true) m)
+    let m = c.next_mark-p.ensures in (
+      omega (arith, m.within, length-recorded q.phase q.rec.now q.count c.requires.0.in_bytes),
+      done_skip _ q.list.now q.room _ c.loop-p.invariant.1 (sym c.standing-long.ensures ∙ c.if-long-eq0.true) m,
+    )
 
 pub note-requires : goal.note-requires
 note-requires c = omega (arith, done-length _ _ _ c.loop-p.invariant.1 c.requires.1)
@@ -52,8 +54,10 @@ loop-p-smaller c =
 pub loop-p-preserved : goal.loop-p-preserved
 loop-p-preserved c =
     let q = c.args in
-    let inside = ends q.phase q.rec.now q.count c.loop-p.p c.requires.0.in_bytes c.standing-long.ensures c.if-long-eq0.false in
-    (omega (arith, inside), done-here _ q.list.now q.room _ _ c.loop-p.invariant.1 c.requires.1 c.standing-long.ensures c.if-long-eq0.false c.note.ensures)
+    let inside = ends q.phase q.rec.now q.count c.loop-p.p c.requires.0.in_bytes c.standing-long.ensures c.if-long-eq0.false in (
+      omega (arith, inside),
+      done-here _ q.list.now q.room _ _ c.loop-p.invariant.1 c.requires.1 c.standing-long.ensures c.if-long-eq0.false c.note.ensures,
+    )
 
 pub shape_of-list : goal.shape_of-list
 shape_of-list c = done-length _ _ _ c.loop-p.invariant.1 c.requires.1
@@ -61,5 +65,6 @@ shape_of-list c = done-length _ _ _ c.loop-p.invariant.1 c.requires.1
 pub returns : goal.returns
 returns c =
     let q = c.args in
-    let h = done_all _ q.list.now q.room c.loop-p.invariant.1 (omega (arith, length-recorded q.phase q.rec.now q.count c.requires.0.in_bytes)) in
+    let h = done_all _ q.list.now q.room c.loop-p.invariant.1
+    (omega (arith, length-recorded q.phase q.rec.now q.count c.requires.0.in_bytes)) in
     record { found = h.0; left = h.1 }

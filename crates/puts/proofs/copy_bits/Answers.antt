@@ -35,11 +35,13 @@ loop-done-preserved c =
     let piece_is : bits c.least-k.result c.field-v.result ≡ cut c.loop-done.done c.least-k.result run =
     let place = c.args.from + c.loop-done.done in
     ap (bits c.least-k.result) c.field-v.ensures
-    ∙ bits_back c.least-k.result (cut place c.least-k.result source) (length-cut place c.least-k.result source (omega (arith, source-length)))
+    ∙ bits_back c.least-k.result (cut place c.least-k.result source)
+    (length-cut place c.least-k.result source (omega (arith, source-length)))
     ∙ sym (cut-cut c.loop-done.done c.least-k.result c.args.from c.args.n source (omega arith)) in (
       omega arith,
       search rules,
-      put_more c.args.to c.loop-done.done c.least-k.result (c.loop-done.done + c.least-k.result) (c.args.to + c.loop-done.done) run old (unpack c.loop-done.dst) _ (omega arith) (omega arith)
+      put_more c.args.to c.loop-done.done c.least-k.result (c.loop-done.done + c.least-k.result) (c.args.to + c.loop-done.done) run old
+          (unpack c.loop-done.dst) _ (omega arith) (omega arith)
           (omega (arith, run_length)) (omega (arith, old-length)) c.loop-done.invariant.2
           (c.put_field.ensures ∙ ap (λ (w : List Bool). put (c.args.to + c.loop-done.done) w (unpack c.loop-done.dst)) piece_is),
     )

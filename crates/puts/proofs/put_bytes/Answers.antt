@@ -22,7 +22,8 @@ loop-left-preserved c =
       search rules,
       search rules,
       simp length-set (omega arith),
-      put_byte c.loop-left.part c.loop-left.i (c.loop-left.left - 8) c.loop-left.left c.args.value _ (omega arith) (omega arith) c.low.ensures ∙ c.loop-left.invariant.3,
+      put_byte c.loop-left.part c.loop-left.i (c.loop-left.left - 8) c.loop-left.left c.args.value _ (omega arith) (omega arith)
+          c.low.ensures ∙ c.loop-left.invariant.3,
     )
 
 pub put_in_byte-requires : goal.put_in_byte-requires
@@ -32,11 +33,13 @@ pub returns-then-left-gt0 : goal.returns-then-left-gt0
 returns-then-left-gt0 c =
     let all : List Bool = unpack c.loop-left.part in
     c.put_in_byte.ensures
-    ∙ ap₂ (λ (q : ℕ) (w : List Bool). put q w all) (add-zero (8 * c.loop-left.i)) (low_bits c.loop-left.left c.args.value _ c.low-then-left-gt0.ensures)
+    ∙ ap₂ (λ (q : ℕ) (w : List Bool). put q w all) (add-zero (8 * c.loop-left.i))
+    (low_bits c.loop-left.left c.args.value _ c.low-then-left-gt0.ensures)
     ∙ c.loop-left.invariant.3
 
 pub returns-else-left-gt0 : goal.returns-else-left-gt0
 returns-else-left-gt0 c =
     let all : List Bool = unpack c.loop-left.part in
     let none : 0 ≡ c.loop-left.left = omega arith in
-    sym (put_none (8 * c.loop-left.i) all) ∙ ap (λ (k : ℕ). put (8 * c.loop-left.i) (bits k c.args.value) all) none ∙ c.loop-left.invariant.3
+    sym (put_none (8 * c.loop-left.i) all) ∙ ap (λ (k : ℕ). put (8 * c.loop-left.i) (bits k c.args.value) all) none
+    ∙ c.loop-left.invariant.3

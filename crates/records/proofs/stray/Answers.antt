@@ -24,7 +24,8 @@ returns-then-strays c =
     let may-is : c.if-i-lt-PLACES.may ≡ may =
     elim c.if-i-lt-PLACES.branch [
       | then-i-lt-PLACES w ↦
-          w.may-is ∙ may_at _ c.loop-marks.i c.args.numbers c.row_of-row.ensures (to_z-of_z {w = w64} (record { sfits = w.bears-arg-1.given })) w.bears-may.ensures
+          let number = to_z-of_z {w = w64} (record { sfits = w.bears-arg-1.given }) in
+          w.may-is ∙ may_at _ c.loop-marks.i c.args.numbers c.row_of-row.ensures number w.bears-may.ensures
       | else-i-lt-PLACES w ↦ w.may-is ∙ may_past _ c.loop-marks.i c.args.numbers w.if-i-lt-PLACES.false
     ] in
     let found = c.strays.ensures ∙ ap (λ (b : Bool). odd c.loop-marks.marks && not b) may-is in
@@ -46,7 +47,8 @@ loop-marks-preserved c =
     let may-is : c.if-i-lt-PLACES.may ≡ may =
     elim c.if-i-lt-PLACES.branch [
       | then-i-lt-PLACES w ↦
-          w.may-is ∙ may_at _ c.loop-marks.i c.args.numbers c.row_of-row.ensures (to_z-of_z {w = w64} (record { sfits = w.bears-arg-1.given })) w.bears-may.ensures
+          let number = to_z-of_z {w = w64} (record { sfits = w.bears-arg-1.given }) in
+          w.may-is ∙ may_at _ c.loop-marks.i c.args.numbers c.row_of-row.ensures number w.bears-may.ensures
       | else-i-lt-PLACES w ↦ w.may-is ∙ may_past _ c.loop-marks.i c.args.numbers w.if-i-lt-PLACES.false
     ] in
     let found = c.strays.ensures ∙ ap (λ (b : Bool). odd c.loop-marks.marks && not b) may-is in

@@ -8,7 +8,8 @@ use Rattle.records.proofs.stray.Given as goal
 abbrev pub invariant-loop-marks : goal.invariant-loop-marks
 invariant-loop-marks l =
     (l.marks < 2 ^ (mark_width - l.i))
-    × (stray (places_of l.kind) l.numbers (mark_bits (mark_width - l.i) l.marks) l.i ≡ stray (places_of l.kind) l.numbers (mark_bits mark_width l.minus) 0)
+    × (stray (places_of l.kind) l.numbers (mark_bits (mark_width - l.i) l.marks) l.i
+    ≡ stray (places_of l.kind) l.numbers (mark_bits mark_width l.minus) 0)
 
 abbrev pub decreases-loop-marks : goal.decreases-loop-marks
 decreases-loop-marks l =

@@ -15,8 +15,11 @@ pub put_line-place-requires : goal.put_line-place-requires
 put_line-place-requires c = (search rules, c.requires.2 c.loop-j.j (omega arith), omega (arith, c.loop-j.invariant.2.few, c.requires.3))
 
 pub loop-j-preserved : goal.loop-j-preserved
-loop-j-preserved c =
-    (search rules, search rules, lines_more _ _ _ _ c.loop-j.invariant.2 (omega arith) c.put_line-place.ensures (omega (arith, c.requires.3)))
+loop-j-preserved c = (
+  search rules,
+  search rules,
+  lines_more _ _ _ _ c.loop-j.invariant.2 (omega arith) c.put_line-place.ensures (omega (arith, c.requires.3)),
+)
 
 pub returns : goal.returns
 returns c =

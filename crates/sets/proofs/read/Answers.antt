@@ -58,7 +58,8 @@ module _ (φ : Phase) (bytes : List ℕ) (count place : ℕ) where
 
           -- what is answered where the first two strings read
           tests : {tested together : Answer} → tested ≡ (three.answer then together) → together ≡ set_tests made → one.answer ≡ Passed
-              → two.answer ≡ Passed → (a : Answer) → tested ≡ a → beside_set a (set_at φ bytes count place) ≡ set_reading φ bytes count place
+              → two.answer ≡ Passed → (a : Answer) → tested ≡ a
+              → beside_set a (set_at φ bytes count place) ≡ set_reading φ bytes count place
           tests t u p q a h =
               last_tested φ bytes count place (passes place e p) (passes (second_place φ bytes count place) two-is q) a
               (sym (ap₂ ◌then◌ (ap answer-of three-is) (u ∙ ap set_tests same)) ∙ sym t ∙ h)
@@ -72,7 +73,11 @@ pub overflow_add-second_place : goal.overflow_add-second_place
 overflow_add-second_place c =
     let q = c.args in
     let h = passes q.phase q.rec.now q.count q.place q.place c.read-one.ensures.answered c.in_default.is in
-    omega (arith, near q.phase q.rec.now q.count q.place q.place (second-is q.phase q.rec.now q.count q.place c.read-one.ensures.answered c.length_of-long.ensures) h)
+    omega (
+      arith,
+      near q.phase q.rec.now q.count q.place q.place
+          (second-is q.phase q.rec.now q.count q.place c.read-one.ensures.answered c.length_of-long.ensures) h,
+    )
 
 pub returns-in-Refused-answer : goal.returns-in-Refused-answer
 returns-in-Refused-answer c =
@@ -88,14 +93,16 @@ overflow_add-third_place c =
     let two = two-is q.phase q.rec.now q.count q.place c.read-one.ensures.answered c.length_of-long.ensures c.read-two.ensures.answered in
     let p = second_place q.phase q.rec.now q.count q.place in
     let h = passes q.phase q.rec.now q.count q.place p two c.in_default-answer.is in
-    let third = third-is q.phase q.rec.now q.count q.place c.read-one.ensures.answered c.length_of-long.ensures c.read-two.ensures.answered c.length_of-long-2.ensures in
+    let third = third-is q.phase q.rec.now q.count q.place c.read-one.ensures.answered c.length_of-long.ensures
+    c.read-two.ensures.answered c.length_of-long-2.ensures in
     omega (arith, near q.phase q.rec.now q.count q.place p third h)
 
 pub returns-in-Refused-tested : goal.returns-in-Refused-tested
 returns-in-Refused-tested c =
     let q = c.args in
     let told =
-    tests q.phase q.rec.now q.count q.place c.read-one.ensures.answered c.length_of-long.ensures c.read-two.ensures.answered c.length_of-long-2.ensures
+    tests q.phase q.rec.now q.count q.place c.read-one.ensures.answered c.length_of-long.ensures c.read-two.ensures.answered
+    c.length_of-long-2.ensures
     c.read-three.ensures.answered c.first-tested.ensures c.set_tests-together.ensures c.in_default.is c.in_default-answer.is in
     read_promised _ _ _ _ (λ i. (c.shared_slice_known-1.given i).fits)
     (c.refused-in-Refused-tested.ensures ∙ told (Refused _) c.in-Refused-tested.is)
@@ -104,8 +111,10 @@ pub returns-in-Passed : goal.returns-in-Passed
 returns-in-Passed c =
     let q = c.args in
     let told =
-    tests q.phase q.rec.now q.count q.place c.read-one.ensures.answered c.length_of-long.ensures c.read-two.ensures.answered c.length_of-long-2.ensures
+    tests q.phase q.rec.now q.count q.place c.read-one.ensures.answered c.length_of-long.ensures c.read-two.ensures.answered
+    c.length_of-long-2.ensures
     c.read-three.ensures.answered c.first-tested.ensures c.set_tests-together.ensures c.in_default.is c.in_default-answer.is in
-    let alike = same q.phase q.rec.now q.count q.place c.read-one.ensures.answered c.length_of-long.ensures c.read-two.ensures.answered c.length_of-long-2.ensures c.read-three.ensures.answered in
+    let alike = same q.phase q.rec.now q.count q.place c.read-one.ensures.answered c.length_of-long.ensures c.read-two.ensures.answered
+    c.length_of-long-2.ensures c.read-three.ensures.answered in
     read_promised _ _ _ _ (λ i. (c.shared_slice_known-1.given i).fits)
     (ap (λ (x : Set). beside_set Passed x) alike ∙ told Passed c.in-Passed.is)

@@ -29,16 +29,22 @@ late count place s e m f t r = e ∙ ap₂ ◌then◌ m (f ∙ ap₂ ◌then◌ 
 
 -- what is known where all tests have passed
 record Ready (bytes : List ℕ) (count place : ℕ) (s : Set) : Type 0 where
+  placed : place_tests (length bytes) count place ≡ Passed
+  passed : later count place s ≡ Passed
   passes : Passes bytes count
   says : Tested count place s
   room : place + set_length ≤ 8 * length bytes
 
-ready : (bytes : List ℕ) (count place : ℕ) (s : Set) → place_tests (length bytes) count place ≡ Passed → later count place s ≡ Passed
+ready : (bytes : List ℕ) (count place : ℕ) (s : Set) {early r f members together room : Answer}
+    → early ≡ place_tests (length bytes) count place → early ≡ Passed → r ≡ (members then f) → members ≡ member_tests s
+    → f ≡ (together then room) → together ≡ set_tests s → room ≡ when (above (place + set_length) count) (RunsOut place) → r ≡ Passed
     → Ready bytes count place s
-ready bytes count place s placed passed =
+ready bytes count place s p x e m f t r y =
+    let placed = sym p ∙ x in
+    let passed = sym (late count place s e m f t r) ∙ y in
     let inside = place-passes bytes count place placed in
     let says = later_says count place s passed in
-    record { passes = inside.0; says = says; room = omega (arith, says.fits, inside.0.in_bytes) }
+    record { placed = placed; passed = passed; passes = inside.0; says = says; room = omega (arith, says.fits, inside.0.in_bytes) }
 
 pub returns-in-Refused : goal.returns-in-Refused
 returns-in-Refused c = refuses _ _ _ _ _ (place-refuses _ _ _ _ _ _ c.place_tests-early.ensures c.in-Refused.is)
@@ -54,39 +60,41 @@ pub returns-in-Refused-late : goal.returns-in-Refused-late
 returns-in-Refused-late c =
     let q = c.args in
     let placed : place_tests (length q.rec.now) q.count q.place ≡ Passed = sym c.place_tests-early.ensures ∙ c.in_default.is in
-    let tests = late q.count q.place q.s c.first-late.ensures c.member_tests-members.ensures c.first.ensures c.set_tests-together.ensures c.room_test-room.ensures in
+    let tests =
+    late q.count q.place q.s c.first-late.ensures c.member_tests-members.ensures c.first.ensures c.set_tests-together.ensures
+    c.room_test-room.ensures in
     refuses _ _ _ _ _ (later_answers _ _ _ _ placed (Refused _) (sym tests ∙ c.in-Refused-late.is))
 
 pub overflow_add-second : goal.overflow_add-second
 overflow_add-second c =
     let q = c.args in
-    let placed : place_tests (length q.rec.now) q.count q.place ≡ Passed = sym c.place_tests-early.ensures ∙ c.in_default.is in
-    let tests = late q.count q.place q.s c.first-late.ensures c.member_tests-members.ensures c.first.ensures c.set_tests-together.ensures c.room_test-room.ensures in
-    let k = ready q.rec.now q.count q.place q.s placed (sym tests ∙ c.in_default-late.is) in
+    let k =
+    ready q.rec.now q.count q.place q.s c.place_tests-early.ensures c.in_default.is c.first-late.ensures
+    c.member_tests-members.ensures c.first.ensures c.set_tests-together.ensures c.room_test-room.ensures c.in_default-late.is in
     omega (arith, k.says.fits, k.passes.short_enough)
 
 pub overflow_add-third : goal.overflow_add-third
 overflow_add-third c =
     let q = c.args in
-    let placed : place_tests (length q.rec.now) q.count q.place ≡ Passed = sym c.place_tests-early.ensures ∙ c.in_default.is in
-    let tests = late q.count q.place q.s c.first-late.ensures c.member_tests-members.ensures c.first.ensures c.set_tests-together.ensures c.room_test-room.ensures in
-    let k = ready q.rec.now q.count q.place q.s placed (sym tests ∙ c.in_default-late.is) in
+    let k =
+    ready q.rec.now q.count q.place q.s c.place_tests-early.ensures c.in_default.is c.first-late.ensures
+    c.member_tests-members.ensures c.first.ensures c.set_tests-together.ensures c.room_test-room.ensures c.in_default-late.is in
     omega (arith, k.says.fits, k.passes.short_enough)
 
 pub put_at-requires : goal.put_at-requires
 put_at-requires c =
     let q = c.args in
-    let placed : place_tests (length q.rec.now) q.count q.place ≡ Passed = sym c.place_tests-early.ensures ∙ c.in_default.is in
-    let tests = late q.count q.place q.s c.first-late.ensures c.member_tests-members.ensures c.first.ensures c.set_tests-together.ensures c.room_test-room.ensures in
-    let k = ready q.rec.now q.count q.place q.s placed (sym tests ∙ c.in_default-late.is) in
+    let k =
+    ready q.rec.now q.count q.place q.s c.place_tests-early.ensures c.in_default.is c.first-late.ensures
+    c.member_tests-members.ensures c.first.ensures c.set_tests-together.ensures c.room_test-room.ensures c.in_default-late.is in
     (sym (lengths q.s k.says.together).0, omega (arith, k.says.fits, k.passes.short_enough), omega (arith, k.room), k.says.first)
 
 pub put_at-requires-2 : goal.put_at-requires-2
 put_at-requires-2 c =
     let q = c.args in
-    let placed : place_tests (length q.rec.now) q.count q.place ≡ Passed = sym c.place_tests-early.ensures ∙ c.in_default.is in
-    let tests = late q.count q.place q.s c.first-late.ensures c.member_tests-members.ensures c.first.ensures c.set_tests-together.ensures c.room_test-room.ensures in
-    let k = ready q.rec.now q.count q.place q.s placed (sym tests ∙ c.in_default-late.is) in
+    let k =
+    ready q.rec.now q.count q.place q.s c.place_tests-early.ensures c.in_default.is c.first-late.ensures
+    c.member_tests-members.ensures c.first.ensures c.set_tests-together.ensures c.room_test-room.ensures c.in_default-late.is in
     let holds = typed q.s (search rules) (search rules) (search rules) in
     let same = length-first q.rec.now q.place q.s holds k.says.together k.room c.put_at.ensures in
     (sym (lengths q.s k.says.together).1, omega (arith, k.says.fits, k.passes.short_enough), omega (arith, k.room, same), k.says.second)
@@ -94,9 +102,9 @@ put_at-requires-2 c =
 pub put_at-requires-3 : goal.put_at-requires-3
 put_at-requires-3 c =
     let q = c.args in
-    let placed : place_tests (length q.rec.now) q.count q.place ≡ Passed = sym c.place_tests-early.ensures ∙ c.in_default.is in
-    let tests = late q.count q.place q.s c.first-late.ensures c.member_tests-members.ensures c.first.ensures c.set_tests-together.ensures c.room_test-room.ensures in
-    let k = ready q.rec.now q.count q.place q.s placed (sym tests ∙ c.in_default-late.is) in
+    let k =
+    ready q.rec.now q.count q.place q.s c.place_tests-early.ensures c.in_default.is c.first-late.ensures
+    c.member_tests-members.ensures c.first.ensures c.set_tests-together.ensures c.room_test-room.ensures c.in_default-late.is in
     let holds = typed q.s (search rules) (search rules) (search rules) in
     let same = length-second q.rec.now q.place q.s holds k.says.together k.room c.put_at.ensures c.put_at-2.ensures in
     (sym (lengths q.s k.says.together).2, omega (arith, k.says.fits, k.passes.short_enough), omega (arith, k.room, same), k.says.third)
@@ -104,17 +112,17 @@ put_at-requires-3 c =
 pub overflow_add-next : goal.overflow_add-next
 overflow_add-next c =
     let q = c.args in
-    let placed : place_tests (length q.rec.now) q.count q.place ≡ Passed = sym c.place_tests-early.ensures ∙ c.in_default.is in
-    let tests = late q.count q.place q.s c.first-late.ensures c.member_tests-members.ensures c.first.ensures c.set_tests-together.ensures c.room_test-room.ensures in
-    let k = ready q.rec.now q.count q.place q.s placed (sym tests ∙ c.in_default-late.is) in
+    let k =
+    ready q.rec.now q.count q.place q.s c.place_tests-early.ensures c.in_default.is c.first-late.ensures
+    c.member_tests-members.ensures c.first.ensures c.set_tests-together.ensures c.room_test-room.ensures c.in_default-late.is in
     omega (arith, k.says.fits, k.passes.short_enough)
 
 pub returns : goal.returns
 returns c =
     let q = c.args in
-    let placed : place_tests (length q.rec.now) q.count q.place ≡ Passed = sym c.place_tests-early.ensures ∙ c.in_default.is in
-    let tests = late q.count q.place q.s c.first-late.ensures c.member_tests-members.ensures c.first.ensures c.set_tests-together.ensures c.room_test-room.ensures in
-    let k = ready q.rec.now q.count q.place q.s placed (sym tests ∙ c.in_default-late.is) in
+    let k =
+    ready q.rec.now q.count q.place q.s c.place_tests-early.ensures c.in_default.is c.first-late.ensures
+    c.member_tests-members.ensures c.first.ensures c.set_tests-together.ensures c.room_test-room.ensures c.in_default-late.is in
     let holds = typed q.s (search rules) (search rules) (search rules) in
-    writes q.rec.now q.count q.place q.s holds (later_answers _ _ _ _ placed Passed (sym tests ∙ c.in_default-late.is)) _
+    writes q.rec.now q.count q.place q.s holds (later_answers _ _ _ _ k.placed Passed k.passed) _
     (all_put q.rec.now q.place q.s holds k.says.together k.room c.put_at.ensures c.put_at-2.ensures c.put_at-3.ensures)

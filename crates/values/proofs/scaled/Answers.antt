@@ -89,7 +89,8 @@ scale-requires c =
     let number_at : 10 + (c.args.field - 10) ≡ c.args.field = omega (arith, inside.0) in
     let few : nat_abs (get_or c.args.r.numbers (c.args.field - 10) (pos 0)) < 2 ^ 53 =
     let l : length c.args.r.numbers ≡ places = search rules in
-    count_few c.args.r (c.args.field - 10) passed (omega (arith, inside.1)) (λ e. power-there (ap (power_of c.args.r.kind) (sym number_at) ∙ e)) in
+    count_few c.args.r (c.args.field - 10) passed (omega (arith, inside.1))
+    (λ e. power-there (ap (power_of c.args.r.kind) (sym number_at) ∙ e)) in
     rw (to_z-of_z {w = w64} (record { sfits = c.scale-arg-1.given })) few
 
 pub returns-in-Refused : goal.returns-in-Refused
@@ -110,4 +111,5 @@ returns-else-k-eq0 c =
     let k = c.power_of-k.ensures in
     let is = c.scale.ensures.value ∙ ap₂ (λ (z : ℤ) (k : ℕ). of_bits binary64 (scaled_bits z k)) z k in
     promised c.args.r c.args.field (ap Number is ∙ given c.args.r c.args.field passed power-there)
-    (one c.scale.result (IsScaled (count_of c.args.r c.args.field) (power_of c.args.r.kind c.args.field)) (rw (← z, ← k) c.scale.ensures.scaled))
+    (one c.scale.result (IsScaled (count_of c.args.r c.args.field) (power_of c.args.r.kind c.args.field))
+    (rw (← z, ← k) c.scale.ensures.scaled))

@@ -16,7 +16,9 @@ pub overflow_sub-count : goal.overflow_sub-count
 overflow_sub-count c = omega (arith, string-filled c.args.r.kind, c.check_count-degree.ensures, c.requires.1)
 
 pub overflow_add-to : goal.overflow_add-to
-overflow_add-to c = omega (arith, parted c.args.r.kind c.raw_count-n.ensures c.check_count-degree.ensures c.requires.1, (length-least _ _ c.requires.1).1, c.requires.0)
+overflow_add-to c =
+    let p = parted c.args.r.kind c.raw_count-n.ensures c.check_count-degree.ensures c.requires.1 in
+    omega (arith, p, (length-least _ _ c.requires.1).1, c.requires.0)
 
 pub overflow_sub-to : goal.overflow_sub-to
 overflow_sub-to c = omega (arith, parted c.args.r.kind c.raw_count-n.ensures c.check_count-degree.ensures c.requires.1)
@@ -40,8 +42,11 @@ put_numbers-requires c =
 
 pub put_raw-requires : goal.put_raw-requires
 put_raw-requires c =
-    let p = parted c.args.r.kind c.raw_count-n.ensures c.check_count-degree.ensures c.requires.1 in
-    (omega (arith, c.raw_count-n.ensures, raw_few c.args.r.kind), omega (arith, p, c.requires.2), omega (arith, p, (length-least _ _ c.requires.1).1, c.requires.0))
+    let p = parted c.args.r.kind c.raw_count-n.ensures c.check_count-degree.ensures c.requires.1 in (
+      omega (arith, c.raw_count-n.ensures, raw_few c.args.r.kind),
+      omega (arith, p, c.requires.2),
+      omega (arith, p, (length-least _ _ c.requires.1).1, c.requires.0),
+    )
 
 pub check-c-requires : goal.check-c-requires
 check-c-requires c =
@@ -49,7 +54,9 @@ check-c-requires c =
     (omega (arith, p), omega (arith, p, c.requires.2), omega (arith, p, (length-least _ _ c.requires.1).1, c.requires.0))
 
 pub overflow_add-offset-2 : goal.overflow_add-offset-2
-overflow_add-offset-2 c = omega (arith, parted c.args.r.kind c.raw_count-n.ensures c.check_count-degree.ensures c.requires.1, (length-least _ _ c.requires.1).1, c.requires.0)
+overflow_add-offset-2 c =
+    let p = parted c.args.r.kind c.raw_count-n.ensures c.check_count-degree.ensures c.requires.1 in
+    omega (arith, p, (length-least _ _ c.requires.1).1, c.requires.0)
 
 pub put_field-requires-2 : goal.put_field-requires-2
 put_field-requires-2 c =
