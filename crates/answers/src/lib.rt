@@ -1,11 +1,12 @@
-// Answers: their numbers and values in the paper, tests one after another, and the tests of a bit count and a place.
+// Answers: their numbers and values in the paper, and the tests of a bit count and a place.
 #![tactic(auto)]
 
 ghost use Rattle.std.specs.Prelude.{◌≡◌, ◌^◌, ◌<◌};
 ghost use Rattle.format.specs.Answers.{refusal_code, answer_code, outcome_code};
-ghost use Rattle.format.specs.Tests.{is_passed, ◌then◌, count_tests, place_tests};
+ghost use Rattle.format.specs.declared.Refusal.TheVariants.{BeyondCount};
+ghost use Rattle.format.specs.Tests.{when, above, count_tests, place_tests};
 
-use format::{Answer, Limits, Outcome, Refusal};
+use format::{Limits, Refusal};
 
 // An answer: 0 and the value asked for, or the number of a refusal and its value.
 #[repr(C)]
@@ -47,70 +48,61 @@ fn coded(number: u64, value: usize) -> Code
     }
 }
 
-// Number and value of what a test or a reading answers.
-pub fn answer_code(answer: Answer) -> Code
-    ensures { (result.number ≡ (answer_code answer).0) × (result.value ≡ (answer_code answer).1) × (result.number < 2 ^ 32) }
+// Number and value of what a test or a reading answers, whatever it gives.
+pub fn answer_code<T>(answer: &Result<T, Refusal>) -> Code
+    ensures { (result.number ≡ (answer_code answer.now).0) × (result.value ≡ (answer_code answer.now).1) × (result.number < 2 ^ 32) }
 {
     match answer {
-        Answer::Passed => coded(0, 0),
-        Answer::Refused(refusal) => refusal_code(refusal),
+        Ok(_) => coded(0, 0),
+        Err(refusal) => refusal_code(*refusal),
     }
 }
 
 // Number and value of what a function answers that gives a number.
-pub fn outcome_code(answer: Outcome) -> Code
+pub fn outcome_code(answer: Result<usize, Refusal>) -> Code
     ensures { (result.number ≡ (outcome_code answer).0) × (result.value ≡ (outcome_code answer).1) }
 {
     match answer {
-        Outcome::Given(value) => coded(0, value),
-        Outcome::NotGiven(refusal) => refusal_code(refusal),
+        Ok(value) => coded(0, value),
+        Err(refusal) => refusal_code(refusal),
     }
 }
 
 // The number of what a test or a reading answers.
-pub fn answer_number(answer: Answer) -> u32
-    ensures { result ≡ (answer_code answer).0 }
+pub fn answer_number<T>(answer: &Result<T, Refusal>) -> u32
+    ensures { result ≡ (answer_code answer.now).0 }
 {
     answer_code(answer).number as u32
 }
 
-// Whether an answer is no refusal.
-pub fn is_passed(a: Answer) -> bool
-    ensures { result ≡ is_passed a }
-{
-    match a {
-        Answer::Passed => true,
-        Answer::Refused(_) => false,
-    }
-}
-
-// The first of two tests that refuses.
-pub fn first(a: Answer, b: Answer) -> Answer
-    ensures { result ≡ (a then b) }
-{
-    if is_passed(a) { b } else { a }
-}
-
 // The tests 1, 2 of a bit count, of so many bytes.
-pub fn count_tests(bytes: usize, count: usize) -> Answer
+pub fn count_tests(bytes: usize, count: usize) -> Result<(), Refusal>
     ensures { result ≡ count_tests bytes count }
 {
     if count > Limits::BITS {
-        return Answer::Refused(Refusal::TooLong);
+        return Err(Refusal::TooLong);
     }
-    if (count + 7) / 8 > bytes {
-        return Answer::Refused(Refusal::BeyondBytes);
+    if count.div_ceil(8) > bytes {
+        return Err(Refusal::BeyondBytes);
     }
-    Answer::Passed
+    Ok(())
+}
+
+// The test 3 of a bit count and a place.
+#[tactic(auto, unfolding(format::specs::Tests::when))]
+pub fn place_test(count: usize, place: usize) -> Result<(), Refusal>
+    ensures { result ≡ when (above place count) (BeyondCount place) }
+{
+    if place > count {
+        return Err(Refusal::BeyondCount(place));
+    }
+    Ok(())
 }
 
 // The tests 1, 2, 3 of a bit count and a place, of so many bytes.
-pub fn place_tests(bytes: usize, count: usize, place: usize) -> Answer
+pub fn place_tests(bytes: usize, count: usize, place: usize) -> Result<(), Refusal>
     ensures { result ≡ place_tests bytes count place }
 {
-    let counted = count_tests(bytes, count);
-    if place > count {
-        return first(counted, Answer::Refused(Refusal::BeyondCount(place)));
-    }
-    counted
+    count_tests(bytes, count)?;
+    place_test(count, place)
 }

@@ -12,7 +12,7 @@ use lib.Pow.{low, ones_split, ones_lt}
 use lib.Seq.{length-take-le}
 use Rattle.bits.specs.declared.Phase.{Phase}
 use Rattle.bits.specs.declared.Phase.TheVariants.{Straight, Inverted}
-use Rattle.bits.specs.Bits.{number, bits, unpack, true_bits, recorded, complement, true_bytes, mask, cut, Covers}
+use Rattle.bits.specs.Bits.{number, bits, unpack, true_bits, recorded, complement, true_bytes, mask, cut, bytes_for, Covers, covered_bytes}
 use Rattle.bits.proofs.Bytes.{length-unpack, unpack_part}
 use Rattle.bits.proofs.Lists.{length-cut, cut-cut, cut-map, map-append}
 use Rattle.bits.proofs.Numbers.{number_lt, number-back, number-cut-lt, bits_back}
@@ -32,19 +32,20 @@ pub cut_part : (φ : Phase) (a k o n q : ℕ) (s : List ℕ) → q ≡ 8 * a + o
 cut_part φ a k o n q s e h =
     ap (cut o n) (true_part φ a k s) ∙ cut-cut o n (8 * a) (8 * k) (true_bits φ s) h ∙ ap (λ (m : ℕ). cut m n (true_bits φ s)) (sym e)
 
--- the part that the bits from a place on cover, as the code takes it
+-- the bytes that the bits from a place on cover
 module _ (s : List ℕ) (p n : ℕ) where
-  abbrev part : List ℕ
-  part = take ((p + n + 7) / 8 - p / 8) (drop (p / 8) s)
-
-  pub part_covers : p + n ≤ 8 * length s → Covers part (p % 8) n
+  pub part_covers : p + n ≤ 8 * length s → Covers (covered_bytes p n s) (p % 8) n
+  unfolding covered_bytes cut
   part_covers h = record { first = omega arith; last = simp (length-take, length-drop) (omega arith) }
 
-  pub part_bits : (φ : Phase) (o m q : ℕ) → q ≡ p + o → o + m ≤ n → cut (p % 8 + o) m (true_bits φ part) ≡ cut q m (true_bits φ s)
-  part_bits φ o m q e h = cut_part φ (p / 8) ((p + n + 7) / 8 - p / 8) (p % 8 + o) m q s (omega arith) (omega arith)
+  pub part_bits : (φ : Phase) (o m q : ℕ) → q ≡ p + o → o + m ≤ n
+      → cut (p % 8 + o) m (true_bits φ (covered_bytes p n s)) ≡ cut q m (true_bits φ s)
+  unfolding covered_bytes cut
+  part_bits φ o m q e h = cut_part φ (p / 8) (bytes_for (p % 8 + n)) (p % 8 + o) m q s (omega arith) (omega arith)
 
-  pub covered-bits : (φ : Phase) → cut (p % 8) n (true_bits φ part) ≡ cut p n (true_bits φ s)
-  covered-bits φ = cut_part φ (p / 8) ((p + n + 7) / 8 - p / 8) (p % 8) n p s (omega arith) (omega arith)
+  pub covered-bits : (φ : Phase) → cut (p % 8) n (true_bits φ (covered_bytes p n s)) ≡ cut p n (true_bits φ s)
+  unfolding covered_bytes cut
+  covered-bits φ = cut_part φ (p / 8) (bytes_for (p % 8 + n)) (p % 8) n p s (omega arith) (omega arith)
 
 -- a recording's bits are its bytes' true bits
 pub length-recorded : (φ : Phase) (s : List ℕ) (count : ℕ) → count ≤ 8 * length s → length (recorded φ s count) ≡ count

@@ -7,7 +7,7 @@ use Rattle.text.specs.Text.{row, number_most}
 
 -- The line of a bit count: the count, and reading's number at place 0 with it.
 unfoldable pub count_line : List ℕ → ℕ → List ℕ
-count_line bytes count = row (count ∷ (answer_code (reading Straight bytes count 0).answer).0 ∷ [])
+count_line bytes count = row (count ∷ (answer_code (reading Straight bytes count 0)).0 ∷ [])
 
 -- The lines of the first counts, from 0 on.
 unfoldable pub cuts : List ℕ → ℕ → List ℕ

@@ -1,7 +1,8 @@
 -- What the loop over a type's places has written. Assumes nothing.
+use Rattle.std.specs.Prelude.{Ok}
 use mathlib.Core.Path.{◌≡◌, refl, sym, ap, ap₂, ◌∙◌, subst}
 use mathlib.Core.Bool.{Bool, true, false, ◌||◌, true≢false, false≢true}
-use mathlib.Core.List.{List, [], ◌∷◌, ◌++◌, map}
+use mathlib.Core.List.{List, [], ◌∷◌, ◌++◌}
 use Prim.Native.Nat.{ℕ, zero, suc, ◌+◌, ◌-◌, ◌/◌, ◌%◌, ◌^◌, ◌≤◌, ◌<◌}
 use native.Mathlib.Numerals.{add-one}
 use native.Mathlib.Omega.{arith}
@@ -13,7 +14,6 @@ use Rattle.bits.specs.Bits.{number, odd, is_one, bits, put}
 use Rattle.bits.proofs.Lists.{put_none, put_join, length-put}
 use Rattle.bits.proofs.Numbers.{number_lt, length-bits, bits_back}
 use Rattle.bits.proofs.SignLaws.{signed_lt}
-use Rattle.format.specs.declared.Answer.TheVariants.{Passed}
 use Rattle.format.specs.declared.Record.{Record}
 use Rattle.format.specs.declared.Refusal.TheVariants.{NotZero}
 use Rattle.format.specs.Tests.{when}
@@ -21,14 +21,15 @@ use Rattle.format.specs.Fields.{Field, widest, unsigned, signed, absent, width, 
 use Rattle.format.specs.Records.{mark_bits, unused, overfilled, stray, field_tests, record_tests}
 use Rattle.format.specs.Types.{places, mark_width, places_of}
 use Rattle.format.proofs.Information.{every, every_head, every_at, every_drop, marks_cover, length_information, widths}
-use Rattle.format.proofs.Information.{fields-left, places-from}
+use Rattle.format.proofs.Information.{places-from}
 use Rattle.format.proofs.Order.{then_pass, when_pass}
 use Rattle.format.proofs.Writing.{ranged}
 use Rattle.format.proofs.FieldLaws.{or_left, sound, Passes, information_sound, length-code, value_code_lem, Fits, fits, length-mark_bits}
-use Rattle.types.proofs.Table.{width-at, sign_at}
-use Rattle.types.specs.declared.rows.Row.{Row}
-use Rattle.types.specs.Rows.{Describes}
+use Rattle.types.proofs.Table.{place_at, few_used, none_past}
+use Rattle.types.specs.declared.rows.Place.{Place}
+use Rattle.types.specs.Rows.{no_place, Describes}
 use Rattle.fields.specs.Coded.{code_of, Tested}
+use Rattle.fields.specs.declared.words.FieldBits.{FieldBits}
 
 -- ---- one field
 
@@ -84,7 +85,7 @@ length_fit g (Fits.next {f} {v} {m} {fs} {vs} {ms} h t) =
     omega (arith, length-append (code f v m) (codes fs vs ms), length-code f v m s.0, length_fit s.1 t)
 
 -- ---- what passed tests say
-pub tested : (r : Record) → record_tests r ≡ Passed → Tested (places_of r.kind) r.numbers r.minus
+pub tested : (r : Record) → record_tests r ≡ Ok tt → Tested (places_of r.kind) r.numbers r.minus
 unfolding record_tests
 tested r e =
     let fs = places_of r.kind in
@@ -118,9 +119,12 @@ written_start {from} {kind} {minus} {numbers} h l t =
       filled = refl;
     }
 
--- bits put at a place that is written in another way
-pub put-at-same : {z : List Bool} {a b : ℕ} (p u : List Bool) → a ≡ b → z ≡ put a p u → z ≡ put b p u
-put-at-same p u e h = h ∙ ap (λ (k : ℕ). put k p u) e
+-- the same bits and the same place written in another way
+pub written_same : {from kind minus : ℕ} {numbers : List ℤ} {u₀ u z : List Bool} {at n marks i : ℕ} → z ≡ u → n ≡ at
+    → WrittenSoFar from kind minus numbers u₀ u at marks i → WrittenSoFar from kind minus numbers u₀ z n marks i
+written_same {from} {kind} {minus} {numbers} {u₀} {u} {z} {at} {n} {marks} {i} e e' c =
+    subst (λ (k : ℕ). WrittenSoFar from kind minus numbers u₀ z k marks i) (sym e')
+    (subst (λ (p : List Bool). WrittenSoFar from kind minus numbers u₀ p at marks i) (sym e) c)
 
 no_bits : (p : List Bool) → length p ≡ 0 → p ≡ []
 no_bits [] e = refl
@@ -129,57 +133,54 @@ no_bits (b ∷ p) e = absurd (omega arith)
 module _ {from kind minus : ℕ} {numbers : List ℤ} {u₀ u : List Bool} {at marks i : ℕ}
     (c : WrittenSoFar from kind minus numbers u₀ u at marks i) where
   -- all fields
-  pub written_all : from + total (places_of kind) ≤ at → u ≡ put from (codes (places_of kind) numbers (mark_bits mark_width minus)) u₀
-  written_all e =
+  pub written_all : {table : List Place} → Describes kind table → i ≡ length table
+      → u ≡ put from (codes (places_of kind) numbers (mark_bits mark_width minus)) u₀
+  written_all d e =
+      let none : total (drop i (places_of kind)) ≡ 0 = ap (λ (k : ℕ). total (drop k (places_of kind))) e ∙ none_past d in
       let more = codes (drop i (places_of kind)) (drop i numbers) (mark_bits (mark_width - i) marks) in
       let lm : length more ≡ total (drop i (places_of kind)) =
       length_fit (every_drop sound (places_of kind) i (information_sound kind)) c.fit in
       sym (ap (λ (p : List Bool). put at p u) (no_bits more (omega (arith, c.place))) ∙ put_none at u) ∙ c.filled
 
-  -- a field is left
-  pub left_here : at < from + total (places_of kind) → i < places
-  left_here h = fields-left kind i (omega (arith, c.place))
-
-  -- the same bits written in another way
-  pub written_same : {z : List Bool} → z ≡ u → WrittenSoFar from kind minus numbers u₀ z at marks i
-  written_same e = subst (λ (p : List Bool). WrittenSoFar from kind minus numbers u₀ p at marks i) (sym e) c
-
-  -- the place at hand: its field, as the widths and the row have it
-  module _ {ws : List ℕ} {row : Row} (ew : ws ≡ map width (places_of kind)) (d : Describes (places_of kind) row) (l : i < places) where
+  -- the place at hand: its field, as the table has it
+  module _ {table : List Place} (d : Describes kind table) (h : i < length table) where
     abbrev f : Field
     f = get_or (places_of kind) i absent
 
     abbrev w : ℕ
-    w = get_or ws i 0
+    w = (get_or table i no_place).width
 
     abbrev s : Bool
-    s = get_or row.signed i false
+    s = (get_or table i no_place).signed
+
+    l : i < places
+    l = omega (arith, few_used d)
 
     width_is : w ≡ width f
-    width_is = width-at (places_of kind) ew i
+    width_is = ap (λ (p : Place). p.width) (place_at d i)
 
     sign_is : s ≡ is_signed f
-    sign_is = sign_at d i
+    sign_is = ap (λ (p : Place). p.signed) (place_at d i)
 
     fields-here : drop i (places_of kind) ≡ f ∷ drop (i + 1) (places_of kind)
     fields-here = places-from kind i l
 
     -- it is narrow, and lies in the bits
-    pub narrow_here : get_or ws i 0 ≤ widest
+    pub narrow_here : (get_or table i no_place).width ≤ widest
     narrow_here = omega (arith, width_is, (widths kind i).0)
 
-    pub room-here : at + get_or ws i 0 ≤ from + total (places_of kind)
+    pub room-here : at + (get_or table i no_place).width ≤ from + total (places_of kind)
     room-here = omega (arith, c.place, ap total fields-here, width_is)
 
     -- its number and its bit of the mark
     module _ (ln : length numbers ≡ places) {v : ℤ} {m : Bool} (ev : v ≡ get_or numbers i (pos 0)) (em : m ≡ odd marks) where
       numbers-here : drop i numbers ≡ v ∷ drop (i + 1) numbers
-      numbers-here = drop-cons numbers i (pos 0) (omega arith) ∙ ap₂ (λ (z : ℤ) (k : ℕ). z ∷ drop k numbers) (sym ev) (sym (add-one i))
+      numbers-here = drop-cons numbers i (pos 0) (omega (arith, l)) ∙ ap₂ (λ (z : ℤ) (k : ℕ). z ∷ drop k numbers) (sym ev) (sym (add-one i))
 
       marks_here : mark_bits (mark_width - i) marks ≡ m ∷ mark_bits (mark_width - (i + 1)) (marks / 2)
       unfolding mark_bits
       marks_here =
-          let e : mark_width - i ≡ suc (mark_width - (i + 1)) = omega (arith, marks_cover) in
+          let e : mark_width - i ≡ suc (mark_width - (i + 1)) = omega (arith, marks_cover, l) in
           ap (λ (k : ℕ). mark_bits k marks) e ∙ ap (λ (b : Bool). b ∷ mark_bits (mark_width - (i + 1)) (marks / 2)) (sym em)
 
       here : Passes f v m × Fits (drop (i + 1) (places_of kind)) (drop (i + 1) numbers) (mark_bits (mark_width - (i + 1)) (marks / 2))
@@ -199,24 +200,26 @@ module _ {from kind minus : ℕ} {numbers : List ℤ} {u₀ u : List Bool} {at m
           let z = size_unsigned f v m sound_here here.0 e in
           (z.0, omega (arith, z.1, ap (λ (n : ℕ). 2 ^ n) width_is))
 
-      pub code_asks : (get_or ws i 0 ≤ widest)
-          × (get_or row.signed i false ≡ true
-          → (2 ≤ get_or ws i 0) × (nat_abs v < 2 ^ (get_or ws i 0 - 1)))
-          × (get_or row.signed i false ≡ false → (v ≡ pos (nat_abs v)) × (nat_abs v < 2 ^ get_or ws i 0))
+      pub code_asks : ((get_or table i no_place).width ≤ widest)
+          × ((get_or table i no_place).signed ≡ true
+          → (2 ≤ (get_or table i no_place).width) × (nat_abs v < 2 ^ ((get_or table i no_place).width - 1)))
+          × ((get_or table i no_place).signed ≡ false → (v ≡ pos (nat_abs v)) × (nat_abs v < 2 ^ (get_or table i no_place).width))
       code_asks = (narrow_here, (λ e. signed_size (sym sign_is ∙ e)), (λ e. unsigned_size (sym sign_is ∙ e)))
 
-      module _ {x : ℕ} (ex : x ≡ number (code_of (get_or row.signed i false) (get_or ws i 0) v m)) where
-        long : length (code f v m) ≡ w
-        long = length-code f v m sound_here ∙ sym width_is
+      -- its bits
+      module _ (field : FieldBits) (at_place : (field.signed ≡ s) × (field.width ≡ w))
+          (ex : field.word ≡ number (code_of (get_or table i no_place).signed (get_or table i no_place).width v m)) where
+        as_wide : field.width ≡ width f
+        as_wide = at_place.1 ∙ width_is
 
-        x_is : x ≡ number (code f v m)
+        x_is : field.word ≡ number (code f v m)
         x_is = ex ∙ ap₂ (λ (b : Bool) (k : ℕ). number (code_of b k v m)) sign_is width_is ∙ ap number (code_of_lem f v m)
 
-        pub x_fits : x < 2 ^ get_or ws i 0
-        x_fits = omega (arith, x_is, number_lt (code f v m), ap (λ (n : ℕ). 2 ^ n) long)
+        long : length (code f v m) ≡ field.width
+        long = length-code f v m sound_here ∙ sym as_wide
 
-        bits-here : bits w x ≡ code f v m
-        bits-here = ap (bits w) x_is ∙ bits_back w (code f v m) long
+        bits-here : bits field.width field.word ≡ code f v m
+        bits-here = ap (bits field.width) x_is ∙ bits_back field.width (code f v m) long
 
         -- the codes that are left when it is written
         abbrev more : List Bool
@@ -228,20 +231,22 @@ module _ {from kind minus : ℕ} {numbers : List ℤ} {u₀ u : List Bool} {at m
             ap (λ (fs : List Field). codes fs (drop i numbers) (mark_bits (mark_width - i) marks)) fields-here
             ∙ ap₂ (λ (vs : List ℤ) (ms : List Bool). codes (f ∷ drop (i + 1) (places_of kind)) vs ms) numbers-here marks_here
 
-        pub written_on : {z : List Bool} → z ≡ put at (bits (get_or ws i 0) x) u
-            → WrittenSoFar from kind minus numbers u₀ z (at + get_or ws i 0) (marks / 2) (i + 1)
-        written_on {z} e =
+        pub written_on : {z : List Bool} {n : ℕ} → z ≡ put at (bits field.width field.word) u → n ≡ at + field.width
+            → WrittenSoFar from kind minus numbers u₀ z n (marks / 2) (i + 1)
+        written_on {z} e e' =
             let rest = drop (i + 1) (places_of kind) in
             let lm : length more ≡ total rest = length_fit (every_drop sound (places_of kind) (i + 1) (information_sound kind)) here.1 in
             let sum = ap total fields-here in
-            let lz : length z ≡ length u = ap length e ∙ length-put at (bits w x) u (omega (arith, room-here, c.room, length-bits w x)) in
-            let j : at + w ≡ at + length (code f v m) = ap (λ (k : ℕ). at + k) (sym long) in
-            record {
-              place = omega (arith, c.place, sum, width_is);
+            let lz : length z ≡ length u =
+            ap length e ∙ length-put at (bits field.width field.word) u
+            (omega (arith, room-here, at_place.1, c.room, length-bits field.width field.word)) in
+            let j : at + field.width ≡ at + length (code f v m) = ap (λ (k : ℕ). at + k) (sym long) in
+            written_same refl e' record {
+              place = omega (arith, c.place, sum, as_wide);
               room = omega (arith, c.room);
               fit = here.1;
               filled =
-                  ap (put (at + w) more) (e ∙ ap (λ (p : List Bool). put at p u) bits-here)
-                  ∙ put_join at (at + w) (code f v m) more u j (omega (arith, c.place, c.room, sum, width_is))
+                  ap (put (at + field.width) more) (e ∙ ap (λ (p : List Bool). put at p u) bits-here)
+                  ∙ put_join at (at + field.width) (code f v m) more u j (omega (arith, c.place, c.room, sum, as_wide))
                   ∙ ap (λ (p : List Bool). put at p u) (sym codes-here) ∙ c.filled;
             }

@@ -1,7 +1,7 @@
 -- What the loop over a type's places has decoded. Assumes nothing.
 use mathlib.Core.Path.{◌≡◌, refl, sym, ap, ap₂, ◌∙◌}
-use mathlib.Core.Bool.{Bool, true, false, true≢false, ◌&&◌}
-use mathlib.Core.List.{List, [], ◌∷◌, map}
+use mathlib.Core.Bool.{Bool, true, true≢false, ◌&&◌}
+use mathlib.Core.List.{List, [], ◌∷◌}
 use Prim.Native.Nat.{ℕ, suc, ◌+◌, ◌-◌, ◌*◌, ◌^◌, ◌≤◌, ◌<◌}
 use native.Mathlib.Nat.{mul_assoc, mul_comm, mul-add}
 use native.Mathlib.Numerals.{add-one}
@@ -19,11 +19,11 @@ use Rattle.bits.proofs.Numbers.{bits_back, number-cut-lt}
 use Rattle.format.specs.Fields.{Field, widest, unsigned, signed, absent, width, is_signed, total, value, marked, values, minus_zeros}
 use Rattle.format.specs.Records.{mark_of}
 use Rattle.format.specs.Types.{places, mark_width, places_of}
-use Rattle.format.proofs.Information.{every, every_head, every_drop, marks_cover, length_information, fields-left, widths, length-values}
+use Rattle.format.proofs.Information.{every, every_head, every_drop, marks_cover, length_information, widths, length-values}
 use Rattle.format.proofs.Information.{length-minus_zeros, mark_of-lt, places-from}
-use Rattle.types.proofs.Table.{wide, all_wide, width_tells, width-at, sign_at}
-use Rattle.types.specs.declared.rows.Row.{Row}
-use Rattle.types.specs.Rows.{Describes}
+use Rattle.types.proofs.Table.{wide, all_wide, width_tells, place_at, few_used, none_past}
+use Rattle.types.specs.declared.rows.Place.{Place}
+use Rattle.types.specs.Rows.{no_place, Describes}
 use Rattle.fields.specs.Decoded.{number_of, mark_bit, Decoded}
 
 -- ---- one field
@@ -91,10 +91,13 @@ none_left (signed w k ∷ fs) p e z =
 
 module _ {u : List Bool} {from kind : ℕ} {numbers : List ℤ} {minus at i : ℕ} (c : ReadSoFar u from kind numbers minus at i) where
   -- all fields
-  pub read_all : i ≤ places → from + total (places_of kind) ≤ at → Decoded kind (drop from u) (record { numbers = numbers; minus = minus })
-  read_all h e =
+  pub read_all : {table : List Place} → Describes kind table → i ≡ length table
+      → Decoded kind (drop from u) (record { numbers = numbers; minus = minus })
+  read_all d e =
       let fs = drop i (places_of kind) in
-      let n = none_left fs (drop at u) (every_drop wide (places_of kind) i (all_wide kind)) (omega (arith, c.place)) in
+      let h : i ≤ places = omega (arith, few_used d) in
+      let none : total fs ≡ 0 = ap (λ (k : ℕ). total (drop k (places_of kind))) e ∙ none_past d in
+      let n = none_left fs (drop at u) (every_drop wide (places_of kind) i (all_wide kind)) none in
       let k : length fs ≡ places - i = length-drop i (places_of kind) ∙ ap (λ (m : ℕ). m - i) (length_information kind) in
       let same : values fs (drop at u) ≡ drop i numbers = n.0 ∙ ap (λ (m : ℕ). replicate m (pos 0)) k ∙ sym c.rest in
       let m : 2 ^ i * mark_of (minus_zeros fs (drop at u)) ≡ 2 ^ i * 0 = ap (λ (x : ℕ). 2 ^ i * x) n.1 in
@@ -102,10 +105,6 @@ module _ {u : List Bool} {from kind : ℕ} {numbers : List ℤ} {minus at i : �
         numbers = sym (ap (λ (q : List ℤ). put i q numbers) same ∙ put_rest i numbers (omega (arith, c.long))) ∙ c.filled;
         mark = omega (arith, c.mark, m);
       }
-
-  -- a field is left
-  pub left_here : at < from + total (places_of kind) → i < places
-  left_here h = fields-left kind i (omega (arith, c.place))
 
   -- the mark so far is a part of the whole
   pub mark-fits : minus < 2 ^ mark_width
@@ -115,39 +114,42 @@ module _ {u : List Bool} {from kind : ℕ} {numbers : List ℤ} {minus at i : �
       let wide : 2 ^ places ≤ 2 ^ mark_width = pow_mono marks_cover in
       omega (arith, c.mark, mark_of-lt ms, ap (λ (k : ℕ). 2 ^ k) n, wide)
 
-  -- the place at hand: its field, as the widths and the row have it
-  module _ {ws : List ℕ} {row : Row} (ew : ws ≡ map width (places_of kind)) (d : Describes (places_of kind) row) (l : i < places) where
+  -- the place at hand: its field, as the table has it
+  module _ {table : List Place} (d : Describes kind table) (h : i < length table) where
     abbrev f : Field
     f = get_or (places_of kind) i absent
 
     abbrev w : ℕ
-    w = get_or ws i 0
+    w = (get_or table i no_place).width
 
     abbrev s : Bool
-    s = get_or row.signed i false
+    s = (get_or table i no_place).signed
+
+    l : i < places
+    l = omega (arith, few_used d)
 
     width_is : w ≡ width f
-    width_is = width-at (places_of kind) ew i
+    width_is = ap (λ (p : Place). p.width) (place_at d i)
 
     sign_is : s ≡ is_signed f
-    sign_is = sign_at d i
+    sign_is = ap (λ (p : Place). p.signed) (place_at d i)
 
     next : drop i (places_of kind) ≡ f ∷ drop (i + 1) (places_of kind)
     next = places-from kind i l
 
     -- it is narrow, and lies in the bits
-    pub width-here : get_or ws i 0 ≤ widest
+    pub width-here : (get_or table i no_place).width ≤ widest
     width-here = omega (arith, width_is, (widths kind i).0)
 
-    pub signed-here : get_or row.signed i false ≡ true → 2 ≤ get_or ws i 0
+    pub signed-here : (get_or table i no_place).signed ≡ true → 2 ≤ (get_or table i no_place).width
     signed-here t = omega (arith, width_is, (widths kind i).1 (sym sign_is ∙ t))
 
-    pub inside_here : at + get_or ws i 0 ≤ from + total (places_of kind)
+    pub inside_here : at + (get_or table i no_place).width ≤ from + total (places_of kind)
     inside_here = omega (arith, c.place, ap total next, width_is)
 
     -- its bits are read
-    module _ (h : from + total (places_of kind) ≤ length u) {x : ℕ} (ex : x ≡ number (cut at (get_or ws i 0) u)) where
-      pub small_here : x < 2 ^ get_or ws i 0
+    module _ (k : from + total (places_of kind) ≤ length u) {x : ℕ} (ex : x ≡ number (cut at ((get_or table i no_place).width) u)) where
+      pub small_here : x < 2 ^ (get_or table i no_place).width
       small_here = rw ex (number-cut-lt at w u (omega (arith, inside_here)))
 
       room : at + width f ≤ length u
@@ -159,8 +161,8 @@ module _ {u : List Bool} {from kind : ℕ} {numbers : List ℤ} {minus at i : �
       on : drop (width f) (drop at u) ≡ drop (at + w) u
       on = drop-drop (width f) at u ∙ ap (λ (k : ℕ). drop (at + k) u) (sym width_is)
 
-      module _ {v : ℤ} {m : ℕ} (ev : v ≡ number_of (get_or row.signed i false) (get_or ws i 0) x)
-          (em : m ≡ mark_bit (get_or row.signed i false) (get_or ws i 0) x i) where
+      module _ {v : ℤ} {m : ℕ} (ev : v ≡ number_of ((get_or table i no_place).signed) ((get_or table i no_place).width) x)
+          (em : m ≡ mark_bit ((get_or table i no_place).signed) ((get_or table i no_place).width) x i) where
         v_is : v ≡ value f (take (width f) (drop at u))
         v_is = ev ∙ ap₂ (λ (b : Bool) (k : ℕ). number_of b k x) sign_is width_is ∙ number-here f u at x room x_is
 
@@ -192,19 +194,19 @@ module _ {u : List Bool} {from kind : ℕ} {numbers : List ℤ} {minus at i : �
 
         rest-on : drop (i + 1) (set numbers i v) ≡ replicate (places - (i + 1)) (pos 0)
         rest-on =
-            let n : places - i ≡ suc (places - (i + 1)) = omega arith in
+            let n : places - i ≡ suc (places - (i + 1)) = omega (arith, l) in
             let here : drop i numbers ≡ get_or numbers i (pos 0) ∷ drop (i + 1) numbers =
-            drop-cons numbers i (pos 0) (omega (arith, c.long))
+            drop-cons numbers i (pos 0) (omega (arith, c.long, l))
             ∙ ap (λ (k : ℕ). get_or numbers i (pos 0) ∷ drop k numbers) (sym (add-one i)) in
             drop-set-lt (i + 1) numbers i v (omega arith)
-            ∙ ap (λ (l : List ℤ). drop 1 l) (sym here ∙ c.rest ∙ ap (λ (k : ℕ). replicate k (pos 0)) n)
+            ∙ ap (λ (vs : List ℤ). drop 1 vs) (sym here ∙ c.rest ∙ ap (λ (k : ℕ). replicate k (pos 0)) n)
 
-        pub read_on : ReadSoFar u from kind (set numbers i v) (minus + m) (at + get_or ws i 0) (i + 1)
+        pub read_on : ReadSoFar u from kind (set numbers i v) (minus + m) (at + (get_or table i no_place).width) (i + 1)
         read_on =
             let fs = drop (i + 1) (places_of kind) in
             let vs = values fs (drop (at + w) u) in
             let k : i + suc (length vs) ≤ length numbers =
-            omega (arith, length-values fs (drop (at + w) u), length-drop (i + 1) (places_of kind), length_information kind, c.long) in
+            omega (arith, length-values fs (drop (at + w) u), length-drop (i + 1) (places_of kind), length_information kind, c.long, l) in
             record {
               long = length-set numbers i v ∙ c.long;
               place = omega (arith, c.place, ap total next, width_is);

@@ -1,5 +1,5 @@
 -- Bits that are held until they fill a word. Assumes nothing.
-use mathlib.Core.Path.{◌≡◌, refl, sym, ap, ap₂, ◌∙◌}
+use mathlib.Core.Path.{◌≡◌, sym, ap, ap₂, ◌∙◌}
 use mathlib.Core.Bool.{Bool}
 use mathlib.Core.List.{List, ◌++◌}
 use Prim.Native.Nat.{ℕ, ◌+◌, ◌*◌, ◌%◌, ◌^◌, ◌≤◌, ◌<◌}
@@ -12,9 +12,9 @@ use lib.Pow.{shl_exact, pow-add, high, low}
 use Rattle.bits.specs.Bits.{bits, put}
 use Rattle.bits.proofs.Lists.{put_none, put_join}
 use Rattle.bits.proofs.Numbers.{length-bits, bits-append, bits-mod}
-use Rattle.format.specs.Fields.{widest}
 use Rattle.fields.specs.Coded.{after_held}
-use Rattle.fields.specs.declared.Held.{Held}
+use Rattle.fields.specs.declared.words.FieldBits.{FieldBits}
+use Rattle.fields.specs.declared.words.Held.{Held}
 
 -- a number of n bits after one of m
 bits_both : (m n a x : ℕ) → x < 2 ^ n → bits (m + n) (a * 2 ^ n + x) ≡ bits m a ++ bits n x
@@ -25,36 +25,25 @@ bits_both m n a x h =
 both_lt : (m n a x : ℕ) → a < 2 ^ m → x < 2 ^ n → a * 2 ^ n + x < 2 ^ (m + n)
 both_lt m n a x h l = rw (pow-add 2 m n) (digits_lt h l)
 
--- What holding promises, of what was held and of the bits before and after.
-abbrev pub HoldPromise : Held → ℕ → ℕ → List Bool → Held → List Bool → Type 0
-HoldPromise held width x u r z =
-    ((r.at + r.count ≡ held.at + held.count + width) × (r.count ≤ 64) × (r.word < 2 ^ r.count))
-    × (after_held r z ≡ put (held.at + held.count) (bits width x) (after_held held u))
+module _ (held : Held) (field : FieldBits) (room : held.count + field.width ≤ 64) where
+  -- the new bits are behind the others
+  word_is : bit_or (held.word * 2 ^ field.width % 2 ^ 64) field.word ≡ held.word * 2 ^ field.width + field.word
+  word_is =
+      ap (λ (y : ℕ). bit_or y field.word) (shl_exact held.count field.width 64 held.small room)
+      ∙ or_shifted held.word field.width field.word field.small
 
-module _ (held : Held) (width x : ℕ) (u : List Bool) (few : width ≤ widest) (fits : x < 2 ^ width) where
-  -- what was held is put, and the new bits are held
-  pub hold_anew : (z : List Bool) → z ≡ put held.at (bits held.count held.word) u
-      → HoldPromise held width x u (record { at = held.at + held.count; word = x; count = width }) z
-  hold_anew z e = ((refl, omega arith, fits), ap (put (held.at + held.count) (bits width x)) e)
+  pub joined_lt : bit_or (held.word * 2 ^ field.width % 2 ^ 64) field.word < 2 ^ (held.count + field.width)
+  joined_lt = rw word_is (both_lt held.count field.width held.word field.word held.small field.small)
 
-  -- the new bits are held after the others
-  module _ (small : held.word < 2 ^ held.count) (room : held.count + width ≤ 64)
-      (inside : held.at + held.count + width ≤ length u) where
-    word_is : bit_or (held.word * 2 ^ width % 2 ^ 64) x ≡ held.word * 2 ^ width + x
-    word_is = ap (λ (y : ℕ). bit_or y x) (shl_exact held.count width 64 small room) ∙ or_shifted held.word width x fits
-
-    abbrev joined : Held
-    joined = record { at = held.at; word = bit_or (held.word * 2 ^ width % 2 ^ 64) x; count = held.count + width }
-
-    pub hold_more : HoldPromise held width x u joined u
-    hold_more = (
-      (omega arith, room, rw word_is (both_lt held.count width held.word x small fits)),
-      ap (λ (y : ℕ). put held.at (bits (held.count + width) y) u) word_is
-          ∙ ap (λ (p : List Bool). put held.at p u) (bits_both held.count width held.word x fits)
-          ∙ sym (put_join held.at (held.at + held.count) (bits held.count held.word) (bits width x) u
-          (ap (λ (n : ℕ). held.at + n) (sym (length-bits held.count held.word))) (omega (arith, length-bits width x))),
-    )
+  pub joined_put : (u : List Bool) → held.at + held.count + field.width ≤ length u
+      → put held.at (bits (held.count + field.width) (bit_or (held.word * 2 ^ field.width % 2 ^ 64) field.word)) u
+      ≡ put (held.at + held.count) (bits field.width field.word) (after_held held u)
+  joined_put u inside =
+      ap (λ (y : ℕ). put held.at (bits (held.count + field.width) y) u) word_is
+      ∙ ap (λ (p : List Bool). put held.at p u) (bits_both held.count field.width held.word field.word field.small)
+      ∙ sym (put_join held.at (held.at + held.count) (bits held.count held.word) (bits field.width field.word) u
+      (ap (λ (n : ℕ). held.at + n) (sym (length-bits held.count held.word))) (omega (arith, length-bits field.width field.word)))
 
 -- nothing is held at first
-pub held_none : (from : ℕ) (u : List Bool) → after_held (record { at = from; word = 0; count = 0 }) u ≡ u
-held_none from u = put_none from u
+pub held_none : (held : Held) (u : List Bool) → held.count ≡ 0 → after_held held u ≡ u
+held_none held u e = ap (λ (n : ℕ). put held.at (bits n held.word) u) e ∙ put_none held.at u

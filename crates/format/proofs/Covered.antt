@@ -1,29 +1,29 @@
 -- What a string says depends on its bits alone, and so on the bytes that it covers. Assumes nothing.
+use Rattle.std.specs.Prelude.{Ok, Err}
+use Rattle.format.specs.Tests.{Answer, giving}
 use mathlib.Core.Path.{◌≡◌, refl, sym, ap, ap₂, ◌∙◌}
 use mathlib.Core.Bool.{Bool, true, false, cond, not}
 use mathlib.Core.List.{List}
 use Prim.Native.Nat.{ℕ, ◌+◌, ◌-◌, ◌*◌, ◌/◌, ◌%◌, ◌≤◌}
 use native.Mathlib.Omega.{arith}
-use lib.ListN.{length, take, drop}
+use lib.ListN.{length, drop}
 use borrow.Author.Tests.{ltb-false}
 use Rattle.bits.specs.declared.Phase.{Phase}
 use Rattle.bits.specs.Bits.{number, true_bits, recorded, cut, bytes_for, covered_bytes}
 use Rattle.bits.specs.Signed.{all_zero}
 use Rattle.bits.proofs.Phases.{length-recorded, cut-recorded, cut_part, part_bits}
 use Rattle.cyclic.specs.Register.{remainder}
-use Rattle.format.specs.declared.Answer.{Answer}
-use Rattle.format.specs.declared.Answer.TheVariants.{Passed, Refused}
 use Rattle.format.specs.declared.Record.{Record}
 use Rattle.format.specs.declared.Refusal.{Refusal}
 use Rattle.format.specs.declared.Refusal.TheVariants.{NoMark, RunsOut, CheckFails}
-use Rattle.format.specs.Reading.{information_bits, record_at, beside, reading, SameThere}
+use Rattle.format.specs.Reading.{information_bits, record_at, reading, SameThere}
 use Rattle.format.specs.Records.{field_tests}
 use Rattle.format.specs.Standing.{begins, check_passes, string_tests, standing}
 use Rattle.format.specs.Strings.{mark, string_bits, type_at, length_of, generator_of, check_bits}
 use Rattle.format.specs.Tests.{is_passed, when, ◌then◌, above, place_tests}
 use Rattle.format.proofs.Agree.{string_bits_lem, type_at_lem, length_unit, begins-mark, same_truth, pass_stands}
 use Rattle.format.proofs.Information.{string-filled}
-use Rattle.format.proofs.Order.{then_pass}
+use Rattle.format.proofs.Order.{then_assoc, then_pass}
 use Rattle.format.proofs.Tests.{place-passes}
 
 -- ---- two places from which so many bits are the same
@@ -77,34 +77,29 @@ module _ (u v : List Bool) (p o : ℕ) (same : (a n : ℕ) → a + n ≤ length_
 -- ---- the bytes that a string covers give its bits
 module _ (φ : Phase) (s : List ℕ) (n p long : ℕ) (k : p + long ≤ n) (e : long ≡ length_of (type_at (recorded φ s n) p)) where
   pub covers : (a m : ℕ) → a + m ≤ length_of (type_at (recorded φ s n) p)
-      → cut (p % 8 + a) m (true_bits φ (take ((p + long + 7) / 8 - p / 8) (drop (p / 8) s))) ≡ cut (p + a) m (recorded φ s n)
+      → cut (p % 8 + a) m (true_bits φ (covered_bytes p long s)) ≡ cut (p + a) m (recorded φ s n)
   covers a m l =
       part_bits s p long φ a m (p + a) refl (omega arith) ∙ sym (cut-recorded φ (p + a) m n s (omega arith))
 
 -- ---- tests of which only those count that are reached
-then_same : (a : Answer) {x y : Answer} → (a ≡ Passed → x ≡ y) → (a then x) ≡ (a then y)
+then_same : (a : Answer) {x y : Answer} → (a ≡ Ok tt → x ≡ y) → (a then x) ≡ (a then y)
 unfolding ◌then◌
-then_same Passed h = h refl
-then_same (Refused r) h = refl
+then_same (Ok u) h = h refl
+then_same (Err r) h = refl
 
 when-same : (b : Bool) (r : Refusal) {x y : Answer} → (b ≡ false → x ≡ y) → (when b r then x) ≡ (when b r then y)
 unfolding when ◌then◌
 when-same true r h = refl
 when-same false r h = h refl
 
-then_assoc : (a b c : Answer) → (a then (b then c)) ≡ ((a then b) then c)
+giving_same : (a : Answer) (q r : Record) → (a ≡ Ok tt → q ≡ r) → giving (a then field_tests q) q ≡ giving (a then field_tests r) r
 unfolding ◌then◌
-then_assoc Passed b c = refl
-then_assoc (Refused r) b c = refl
+giving_same (Ok u) q r h = ap (λ (x : Record). giving (field_tests x) x) (h refl)
+giving_same (Err x) q r h = refl
 
-beside_same : (a : Answer) (q r : Record) → (a ≡ Passed → q ≡ r) → beside (a then field_tests q) q ≡ beside (a then field_tests r) r
-unfolding ◌then◌
-beside_same Passed q r h = ap (λ (x : Record). beside (field_tests x) x) (h refl)
-beside_same (Refused x) q r h = refl
-
-length-same : (a : Answer) (i j : ℕ) → (a ≡ Passed → i ≡ j) → cond (is_passed a) i 0 ≡ cond (is_passed a) j 0
-length-same Passed i j h = h refl
-length-same (Refused r) i j h = refl
+length-same : (a : Answer) (i j : ℕ) → (a ≡ Ok tt → i ≡ j) → cond (is_passed a) i 0 ≡ cond (is_passed a) j 0
+length-same (Ok u) i j h = h refl
+length-same (Err r) i j h = refl
 
 -- ---- two recordings of one length that agree on the bytes that the string at a place of the first covers
 module _ (φ : Phase) (s t : List ℕ) (n p : ℕ) (lengths : length t ≡ length s) (agree : SameThere φ t s n p) where
@@ -173,7 +168,7 @@ module _ (φ : Phase) (s t : List ℕ) (n p : ℕ) (lengths : length t ≡ lengt
         let m : p + long ≤ n = omega (arith, ltb-false (length u) (p + long) f, size_u) in
         ap (λ (b : Bool). when (not b) (CheckFails p)) (same_check u v p p (whole m)))))
 
-    passed_fits : string_tests u p ≡ Passed → p + long ≤ n
+    passed_fits : string_tests u p ≡ Ok tt → p + long ≤ n
     passed_fits e = omega (arith, (pass_stands u p e).fits, size_u)
 
     -- What stands at the place is the same.
@@ -188,13 +183,13 @@ module _ (φ : Phase) (s t : List ℕ) (n p : ℕ) (lengths : length t ≡ lengt
   unfolding reading
   reading-covered =
       let q = place_tests (length s) n p in
-      ap (λ (m : ℕ). beside (place_tests m n p then string_tests v p then field_tests (record_at v p)) (record_at v p)) lengths
-      ∙ ap (λ (a : Answer). beside a (record_at v p)) (then_assoc q (string_tests v p) (field_tests (record_at v p)))
-      ∙ ap (λ (a : Answer). beside (a then field_tests (record_at v p)) (record_at v p))
+      ap (λ (m : ℕ). giving (place_tests m n p then string_tests v p then field_tests (record_at v p)) (record_at v p)) lengths
+      ∙ ap (λ (a : Answer). giving a (record_at v p)) (sym (then_assoc q (string_tests v p) (field_tests (record_at v p))))
+      ∙ ap (λ (a : Answer). giving (a then field_tests (record_at v p)) (record_at v p))
       (then_same q (λ e. tests_same (place-passes s n p e).0.in_bytes))
-      ∙ beside_same (q then string_tests u p) (record_at v p) (record_at u p)
+      ∙ giving_same (q then string_tests u p) (record_at v p) (record_at u p)
       (λ e.
       let a = then_pass q (string_tests u p) e in
       let i = (place-passes s n p a.0).0.in_bytes in
       same_record u v p p (whole i (passed_fits i a.1)))
-      ∙ ap (λ (a : Answer). beside a (record_at u p)) (sym (then_assoc q (string_tests u p) (field_tests (record_at u p))))
+      ∙ ap (λ (a : Answer). giving a (record_at u p)) (then_assoc q (string_tests u p) (field_tests (record_at u p)))

@@ -1,5 +1,8 @@
 -- Answers by the paper's number and value: each function returns what its lines say. Assumes nothing.
-use mathlib.Core.Path.{◌≡◌, refl, sym, ap, ◌∙◌}
+use Rattle.format.proofs.Order.{answer_giving}
+use Rattle.std.specs.Prelude.{Ok, Err, Result}
+use Rattle.format.specs.Tests.{Answer, Outcome, answer_of}
+use mathlib.Core.Path.{◌≡◌, refl, sym, ap, ◌∙◌, subst}
 use mathlib.Core.Bool.{Bool, true, false, cond, not, ◌&&◌, ◌||◌}
 use mathlib.Core.List.{List, [], ◌∷◌, ◌++◌}
 use Prim.Native.Nat.{ℕ, suc, ◌+◌}
@@ -9,9 +12,6 @@ use lib.IntN.{ℤ, pos}
 use lib.ListN.{length, get_or}
 use Rattle.bits.specs.declared.Phase.{Phase}
 use Rattle.bits.specs.Bits.{recorded}
-use Rattle.format.specs.declared.Answer.{Answer}
-use Rattle.format.specs.declared.Answer.TheVariants.{Passed, Refused}
-use Rattle.format.specs.declared.Outcome.{Outcome}
 use Rattle.format.specs.declared.Record.{Record}
 use Rattle.format.specs.declared.Refusal.{Refusal}
 use Rattle.format.specs.declared.Refusal.TheVariants.{OutOfRange, MinusZero}
@@ -29,7 +29,7 @@ use Rattle.format.specs.Strings.{length_of}
 use Rattle.format.specs.Tests.{is_passed, refuses, when, ◌then◌, giving, Line, on, returned}
 use Rattle.format.specs.Tests.{count_tests, count_lines, place_tests, place_lines}
 use Rattle.format.specs.Types.{mark_width, places_of, fields_of, day}
-use Rattle.format.specs.Values.{power_of, scaling, scale_returned, value_answer, accuracy, centimetres_of, accuracy_returned}
+use Rattle.format.specs.Values.{power_of, scaling, scale_returned, accuracy, centimetres_of, accuracy_returned}
 use Rattle.format.specs.Values.{AccuracyPromise, day_count, days_of, days_returned, DayPromise}
 use Rattle.format.specs.Writing.{write_tests, writing, write_returned}
 
@@ -62,7 +62,7 @@ record Tells (a : Answer) (ls : List Line) : Type 0 where
   passes : is_passed a ≡ none ls
   code : answer_code a ≡ returned ls 0
 
-tells_passed : Tells Passed []
+tells_passed : Tells (Ok tt) []
 unfolding returned
 tells_passed = record { passes = refl; code = refl }
 
@@ -76,23 +76,35 @@ unfolding ◌then◌
 tells_then {a} {b} {ls} {ms} s t = at a s.passes s.code
   where
     at : (a : Answer) → is_passed a ≡ none ls → answer_code a ≡ returned ls 0 → Tells (a then b) (ls ++ ms)
-    at Passed p c = record {
+    at (Ok u) p c = record {
       passes = t.passes ∙ sym (none_append ls ms ∙ ap (λ (x : Bool). cond x (none ms) false) (sym p));
       code = t.code ∙ sym (returned-append ls ms 0 ∙ ap (λ (x : Bool). cond x (returned ms 0) (returned ls 0)) (sym p));
     }
-    at (Refused r) p c = record {
+    at (Err r) p c = record {
       passes = sym (none_append ls ms ∙ ap (λ (x : Bool). cond x (none ms) false) (sym p));
       code = c ∙ sym (returned-append ls ms 0 ∙ ap (λ (x : Bool). cond x (returned ms 0) (returned ls 0)) (sym p));
     }
 
--- what gives a number beside its answer
+-- an answer is told alike, whatever it gives
+answered_code : {A : Type 0} (a : Result A Refusal) → answer_code (answer_of a) ≡ answer_code a
+answered_code (Ok x) = refl
+answered_code (Err r) = refl
+
+giving_told : {A : Type 0} (a : Answer) (x : A) → answer_code (giving a x) ≡ answer_code a
+giving_told (Ok u) x = refl
+giving_told (Err r) x = refl
+
+tells_giving : {A : Type 0} {a : Answer} (x : A) {ls : List Line} → Tells a ls → Tells (answer_of (giving a x)) ls
+tells_giving {A} {a} x {ls} t = subst (λ (b : Answer). Tells b ls) (sym (answer_giving a x)) t
+
+-- what gives a number where its tests pass
 giving-returned : {a : Answer} {ls : List Line} → Tells a ls → (g : ℕ) → outcome_code (giving a g) ≡ returned ls g
 giving-returned {a} {ls} t g = at a t.passes t.code ∙ sym (returned-given ls g)
   where
     at : (a : Answer) → is_passed a ≡ none ls → answer_code a ≡ returned ls 0
         → outcome_code (giving a g) ≡ cond (none ls) (0, g) (returned ls 0)
-    at Passed p c = ap (λ (x : Bool). cond x (0, g) (returned ls 0)) p
-    at (Refused r) p c = c ∙ ap (λ (x : Bool). cond x (0, g) (returned ls 0)) p
+    at (Ok u) p c = ap (λ (x : Bool). cond x (0, g) (returned ls 0)) p
+    at (Err r) p c = c ∙ ap (λ (x : Bool). cond x (0, g) (returned ls 0)) p
 
 -- ---- the tests
 
@@ -116,19 +128,19 @@ range_tells : (f : Field) (fs : List Field) (v : ℤ) (vs : List ℤ) (n : ℕ) 
 unfolding ranges returned
 range_tells f fs v vs n {ls} t = at (in_range f v)
   where
-    at : (b : Bool) → Tells (cond b (ranges fs vs (suc n)) (Refused (OutOfRange n))) (on (not b) 7 n ∷ ls)
+    at : (b : Bool) → Tells (cond b (ranges fs vs (suc n)) (Err (OutOfRange n))) (on (not b) 7 n ∷ ls)
     at true = record { passes = t.passes; code = t.code }
     at false = record { passes = refl; code = refl }
 
 -- a refusal, or what is told of the rest, with its value
 rest_tells : (b : Bool) (r : Refusal) (a : Answer) (m : ℕ) → Tells a (on (refuses a) (refusal_code r).0 m ∷ [])
-    → Tells (cond b a (Refused r)) (on (refuses (cond b a (Refused r))) (refusal_code r).0 (cond b m (refusal_code r).1) ∷ [])
+    → Tells (cond b a (Err r)) (on (refuses (cond b a (Err r))) (refusal_code r).0 (cond b m (refusal_code r).1) ∷ [])
 unfolding returned
 rest_tells true r a m t = t
 rest_tells false r a m t = record { passes = refl; code = refl }
 
 first_tells : (b : Bool) (r : Refusal) (a : Answer) (m : ℕ) → Tells a (on (refuses a) (refusal_code r).0 m ∷ [])
-    → Tells (cond b (Refused r) a) (on (refuses (cond b (Refused r) a)) (refusal_code r).0 (cond b (refusal_code r).1 m) ∷ [])
+    → Tells (cond b (Err r) a) (on (refuses (cond b (Err r) a)) (refusal_code r).0 (cond b (refusal_code r).1 m) ∷ [])
 unfolding returned
 first_tells true r a m t = record { passes = refl; code = refl }
 first_tells false r a m t = t
@@ -169,15 +181,17 @@ pub list_numbered : (bytes count room found : ℕ)
 unfolding list_answer
 list_numbered bytes count room found = giving-returned (tells_then (count_tells bytes count) (tells_when _ _)) found
 
-read_tells : (φ : Phase) (bytes : List ℕ) (count place : ℕ) → Tells (reading φ bytes count place).answer (read_lines φ bytes count place)
+read_tells : (φ : Phase) (bytes : List ℕ) (count place : ℕ)
+    → Tells (answer_of (reading φ bytes count place)) (read_lines φ bytes count place)
 unfolding reading
 read_tells φ bytes count place =
     let u = recorded φ bytes count in
-    tells_then (place_tells (length bytes) count place) (tells_then (string_tells u place) (field_tells (record_at u place)))
+    tells_giving (record_at u place)
+    (tells_then (place_tells (length bytes) count place) (tells_then (string_tells u place) (field_tells (record_at u place))))
 
 pub read_numbered : (φ : Phase) (bytes : List ℕ) (count place : ℕ)
-    → answer_code (reading φ bytes count place).answer ≡ read_returned φ bytes count place
-read_numbered φ bytes count place = (read_tells φ bytes count place).code
+    → answer_code (reading φ bytes count place) ≡ read_returned φ bytes count place
+read_numbered φ bytes count place = sym (answered_code (reading φ bytes count place)) ∙ (read_tells φ bytes count place).code
 
 pub write_numbered : (bytes count place : ℕ) (r : Record)
     → outcome_code (writing bytes count place r) ≡ write_returned bytes count place r
@@ -191,10 +205,11 @@ unfolding set_tests
 set_tells s = tells_then (tells_when (other_types s) _) (tells_then (tells_when (other_satellites s) _) (tells_when (other_times s) _))
 
 pub set_read_numbered : (φ : Phase) (bytes : List ℕ) (count place : ℕ)
-    → answer_code (set_reading φ bytes count place).answer ≡ set_read_returned φ bytes count place
+    → answer_code (set_reading φ bytes count place) ≡ set_read_returned φ bytes count place
 unfolding set_reading
 set_read_numbered φ bytes count place =
-    (tells_then (read_tells φ bytes count place)
+    giving_told _ (set_at φ bytes count place)
+    ∙ (tells_then (read_tells φ bytes count place)
     (tells_then (read_tells φ bytes count (second_place φ bytes count place))
     (tells_then (read_tells φ bytes count (third_place φ bytes count place)) (set_tells (set_at φ bytes count place))))).code
 
@@ -207,9 +222,9 @@ set_write_numbered bytes count place s =
     (place + set_length)
 
 value_told : (a : Answer) (x : Float)
-    → ((value_code (value_answer a x)).0 ≡ (answer_code a).0) × ((value_code (value_answer a x)).1 ≡ (answer_code a).1)
-value_told Passed x = (refl, refl)
-value_told (Refused r) x = (refl, refl)
+    → ((value_code (giving a x)).0 ≡ (answer_code a).0) × ((value_code (giving a x)).1 ≡ (answer_code a).1)
+value_told (Ok u) x = (refl, refl)
+value_told (Err r) x = (refl, refl)
 
 pub scale_numbered : (r : Record) (n : ℕ)
     → ((value_code (scaling r n)).0 ≡ (scale_returned r n).0) × ((value_code (scaling r n)).1 ≡ (scale_returned r n).1)

@@ -1,4 +1,7 @@
 -- Ephemeris sets: their tests in words, where a set is read, and that reading and writing a set undo each other. Assumes nothing.
+use Rattle.format.specs.declared.Refusal.{Refusal}
+use Rattle.std.specs.Prelude.{Ok, Err, Result}
+use Rattle.format.specs.Tests.{Answer, answer_of, giving}
 use mathlib.Core.Path.{◌≡◌, refl, sym, ap, ap₂, ◌∙◌, subst}
 use mathlib.Core.Bool.{Bool, true, false, ◌&&◌, not, false≢true}
 use mathlib.Core.List.{List, ◌++◌}
@@ -14,25 +17,20 @@ use Rattle.bits.specs.declared.Phase.{Phase}
 use Rattle.bits.specs.declared.Phase.TheVariants.{Straight}
 use Rattle.bits.specs.Bits.{recorded, cut}
 use Rattle.bits.proofs.Lists.{cut_whole, cut_split}
-use Rattle.format.specs.declared.Answer.{Answer}
-use Rattle.format.specs.declared.Answer.TheVariants.{Passed, Refused}
-use Rattle.format.specs.declared.Outcome.TheVariants.{Given}
-use Rattle.format.specs.declared.Reading.{Reading}
 use Rattle.format.specs.declared.Record.{Record}
 use Rattle.format.specs.declared.Refusal.TheVariants.{RunsOut, OtherTypes, OtherSatellites, OtherTimes}
 use Rattle.format.specs.declared.Set.{Set}
-use Rattle.format.specs.declared.SetReading.{SetReading}
-use Rattle.format.specs.Reading.{reading, SameThere}
+use Rattle.format.specs.Reading.{reading, SameThere, content_of}
 use Rattle.format.specs.Records.{record_tests}
 use Rattle.format.specs.Sets.{next_time, other_types, other_satellites, other_times, set_tests, Together, second_place, third_place, set_at}
-use Rattle.format.specs.Sets.{beside_set, set_reading, SetThere, set_length, set_bits, member_tests, set_write_tests, set_writing}
+use Rattle.format.specs.Sets.{set_reading, SetThere, set_length, set_bits, member_tests, set_write_tests, set_writing}
 use Rattle.format.specs.Sets.{SetReadsBack, SetWritesBack}
 use Rattle.format.specs.Strings.{length_of}
-use Rattle.format.specs.Tests.{when, ◌then◌, giving, above, place_tests, Passes}
+use Rattle.format.specs.Tests.{when, ◌then◌, above, place_tests, Passes}
 use Rattle.format.specs.Types.{last_time}
 use Rattle.format.specs.Writing.{string, with_bits, bytes_after, WritesBack}
 use Rattle.format.proofs.Covered.{reading-covered}
-use Rattle.format.proofs.Order.{then_pass, then_both, when_pass, when_no}
+use Rattle.format.proofs.Order.{then_pass, then_both, when_pass, when_no, giving_ok}
 use Rattle.format.proofs.RoundTrips.{given_passed, with_passes, with_there, with_same, read_passes, read_fits, there_back, read_back}
 use Rattle.format.proofs.Tests.{place-passes, passes-place}
 use Rattle.format.proofs.Writing.{Typed, length-string}
@@ -55,11 +53,11 @@ both_true false b e = absurd (false≢true e)
 both : {a b : Bool} → a ≡ true → b ≡ true → (a && b) ≡ true
 both e f = rw (e, f) refl
 
-pub set-passes : (s : Set) → (set_tests s ≡ Passed) ↔ Together s
+pub set-passes : (s : Set) → (set_tests s ≡ Ok tt) ↔ Together s
 unfolding set_tests
 set-passes s = (says, pass)
   where
-    says : set_tests s ≡ Passed → Together s
+    says : set_tests s ≡ Ok tt → Together s
     says e =
         let a = then_pass (when (other_types s) OtherTypes) _ e in
         let b = then_pass (when (other_satellites s) OtherSatellites) (when (other_times s) OtherTimes) a.1 in
@@ -73,7 +71,7 @@ set-passes s = (says, pass)
           times = (eqb-true _ _ m.0, eqb-true _ _ m.1);
         }
 
-    pass : Together s → set_tests s ≡ Passed
+    pass : Together s → set_tests s ≡ Ok tt
     pass t =
         then_both
         (sym (when_no OtherTypes
@@ -90,30 +88,27 @@ lengths s t = (ap length_of t.types.0, ap length_of t.types.1, ap length_of t.ty
 
 -- ---- where a set is read
 
--- a string that is read is its answer beside its record
-as_read : (r : Reading) → r.answer ≡ Passed → r ≡ record { answer = Passed; content = r.content }
-as_read r e = λ i. record { answer = e i; content = r.content }
-
-beside_set_lem : (a : Answer) (s : Set) → a ≡ Passed → beside_set a s ≡ record { answer = Passed; content = s }
-beside_set_lem a s e = ap (λ (x : Answer). beside_set x s) e
+-- a string that is read gives its record
+as_read : (r : Result Record Refusal) → answer_of r ≡ Ok tt → r ≡ Ok (content_of r)
+as_read (Ok x) e = refl
+as_read (Err x) e = let z : ◌≡◌ {A = ℕ} 0 1 = cc in absurd (omega arith)
 
 module _ (φ : Phase) (bytes : List ℕ) (count place : ℕ) where
-  module _ (s : Set) (e : set_reading φ bytes count place ≡ record { answer = Passed; content = s }) where
-    answers : ((reading φ bytes count place).answer ≡ Passed)
-        × ((reading φ bytes count (second_place φ bytes count place)).answer ≡ Passed)
-        × ((reading φ bytes count (third_place φ bytes count place)).answer ≡ Passed)
-        × (set_tests (set_at φ bytes count place) ≡ Passed)
+  module _ (s : Set) (e : set_reading φ bytes count place ≡ Ok s) where
+    answers : (answer_of (reading φ bytes count place) ≡ Ok tt)
+        × (answer_of (reading φ bytes count (second_place φ bytes count place)) ≡ Ok tt)
+        × (answer_of (reading φ bytes count (third_place φ bytes count place)) ≡ Ok tt)
+        × (set_tests (set_at φ bytes count place) ≡ Ok tt)
     unfolding set_reading
     answers =
-        let a = then_pass (reading φ bytes count place).answer _ (ap (λ (x : SetReading). x.answer) e) in
-        let b = then_pass (reading φ bytes count (second_place φ bytes count place)).answer _ a.1 in
-        let c = then_pass (reading φ bytes count (third_place φ bytes count place)).answer _ b.1 in
+        let a = then_pass (answer_of (reading φ bytes count place)) _ (giving_ok _ (set_at φ bytes count place) s e).0 in
+        let b = then_pass (answer_of (reading φ bytes count (second_place φ bytes count place))) _ a.1 in
+        let c = then_pass (answer_of (reading φ bytes count (third_place φ bytes count place))) _ b.1 in
         (a.0, b.0, c.0, c.1)
 
     content : set_at φ bytes count place ≡ s
     unfolding set_reading
-    content =
-        ap (λ (x : SetReading). x.content) (sym (beside_set_lem _ (set_at φ bytes count place) (ap (λ (x : SetReading). x.answer) e)) ∙ e)
+    content = (giving_ok _ (set_at φ bytes count place) s e).1
 
     read_there : SetThere φ bytes count place s
     read_there =
@@ -122,86 +117,85 @@ module _ (φ : Phase) (bytes : List ℕ) (count place : ℕ) where
         let p₂ : second_place φ bytes count place ≡ place + 250 = omega (arith, l.0) in
         let p₃ : third_place φ bytes count place ≡ place + 500 = omega (arith, l.0, l.1) in
         record {
-          first = as_read _ answers.0 ∙ ap (λ (x : Set). record { answer = Passed; content = x.first }) content;
+          first = as_read _ answers.0 ∙ ap (λ (x : Set). Ok x.first) content;
           second =
               ap (reading φ bytes count) (sym p₂) ∙ as_read _ answers.1
-              ∙ ap (λ (x : Set). record { answer = Passed; content = x.second }) content;
+              ∙ ap (λ (x : Set). Ok x.second) content;
           third =
               ap (reading φ bytes count) (sym p₃) ∙ as_read _ answers.2
-              ∙ ap (λ (x : Set). record { answer = Passed; content = x.third }) content;
+              ∙ ap (λ (x : Set). Ok x.third) content;
           together = subst Together content t;
         }
 
-  there_read : (s : Set) → SetThere φ bytes count place s → set_reading φ bytes count place ≡ record { answer = Passed; content = s }
+  there_read : (s : Set) → SetThere φ bytes count place s → set_reading φ bytes count place ≡ Ok s
   unfolding set_reading
   there_read s t =
       let l = lengths s t.together in
-      let kind : Reading → ℕ = λ x. length_of x.content.kind in
+      let kind : Result Record Refusal → ℕ = λ x. length_of (content_of x).kind in
       let p₂ : second_place φ bytes count place ≡ place + 250 = omega (arith, ap kind t.first, l.0) in
       let e₂ = ap (reading φ bytes count) p₂ ∙ t.second in
       let p₃ : third_place φ bytes count place ≡ place + 500 = omega (arith, p₂, ap kind e₂, l.1) in
       let e₃ = ap (reading φ bytes count) p₃ ∙ t.third in
       let same : set_at φ bytes count place ≡ s =
-      λ i. record { first = (t.first i).content; second = (e₂ i).content; third = (e₃ i).content } in
-      let answer : Reading → Answer = λ x. x.answer in
-      beside_set_lem _ (set_at φ bytes count place)
-      (then_both (ap answer t.first) (then_both (ap answer e₂) (then_both (ap answer e₃)
+      λ i. record { first = content_of (t.first i); second = content_of (e₂ i); third = content_of (e₃ i) } in
+      ap (λ (a : Answer). giving a (set_at φ bytes count place))
+      (then_both (ap answer_of t.first) (then_both (ap answer_of e₂) (then_both (ap answer_of e₃)
       (ap set_tests same ∙ (set-passes s).1 t.together))))
-      ∙ ap (λ (x : Set). record { answer = Passed; content = x }) same
+      ∙ ap (λ (x : Set). Ok x) same
 
   -- A set is read exactly where its three strings read, end to end, and belong together.
-  pub set-exact : (s : Set) → (set_reading φ bytes count place ≡ record { answer = Passed; content = s }) ↔ SetThere φ bytes count place s
+  pub set-exact : (s : Set) → (set_reading φ bytes count place ≡ Ok s) ↔ SetThere φ bytes count place s
   set-exact s = (read_there s, there_read s)
 
 -- ---- only the bytes that the strings cover, up to and with the first that is refused
 
 -- a refusal comes before all that follows it
-skip : (a x y : Answer) (s t : Set) → (a ≡ Passed → beside_set x s ≡ beside_set y t) → beside_set (a then x) s ≡ beside_set (a then y) t
+skip : (a x y : Answer) (s t : Set) → (a ≡ Ok tt → giving x s ≡ giving y t) → giving (a then x) s ≡ giving (a then y) t
 unfolding ◌then◌
-skip Passed x y s t h = h refl
-skip (Refused r) x y s t h = refl
+skip (Ok u) x y s t h = h refl
+skip (Err r) x y s t h = refl
 
 -- what reading a set gives, of what its strings give
-abbrev three : Reading → Reading → Reading → Set
-three x y z = record { first = x.content; second = y.content; third = z.content }
+abbrev three : Result Record Refusal → Result Record Refusal → Result Record Refusal → Set
+three x y z = record { first = content_of x; second = content_of y; third = content_of z }
 
-abbrev from-third : Reading → Reading → Reading → Answer
-from-third x y z = z.answer then set_tests (three x y z)
+abbrev from-third : Result Record Refusal → Result Record Refusal → Result Record Refusal → Answer
+from-third x y z = answer_of z then set_tests (three x y z)
 
-abbrev from_second : Reading → Reading → Reading → Answer
-from_second x y z = y.answer then from-third x y z
+abbrev from_second : Result Record Refusal → Result Record Refusal → Result Record Refusal → Answer
+from_second x y z = answer_of y then from-third x y z
 
-abbrev pub from_first : Reading → Reading → Reading → SetReading
-from_first x y z = beside_set (x.answer then from_second x y z) (three x y z)
+abbrev pub from_first : Result Record Refusal → Result Record Refusal → Result Record Refusal → Result Set Refusal
+from_first x y z = giving (answer_of x then from_second x y z) (three x y z)
 
-alike : (x y y' z z' : Reading) → (x.answer ≡ Passed → y ≡ y') → (x.answer ≡ Passed → y'.answer ≡ Passed → z ≡ z')
+alike : (x y y' z z' : Result Record Refusal) → (answer_of x ≡ Ok tt → y ≡ y') → (answer_of x ≡ Ok tt → answer_of y' ≡ Ok tt → z ≡ z')
     → from_first x y z ≡ from_first x y' z'
 alike x y y' z z' h k =
-    skip x.answer (from_second x y z) (from_second x y' z') (three x y z) (three x y' z')
-    (λ a. ap (λ (w : Reading). beside_set (from_second x w z) (three x w z)) (h a)
-    ∙ skip y'.answer (from-third x y' z) (from-third x y' z') (three x y' z) (three x y' z')
-    (λ b. ap (λ (w : Reading). beside_set (from-third x y' w) (three x y' w)) (k a b)))
+    skip (answer_of x) (from_second x y z) (from_second x y' z') (three x y z) (three x y' z')
+    (λ a. ap (λ (w : Result Record Refusal). giving (from_second x w z) (three x w z)) (h a)
+    ∙ skip (answer_of y') (from-third x y' z) (from-third x y' z') (three x y' z) (three x y' z')
+    (λ b. ap (λ (w : Result Record Refusal). giving (from-third x y' w) (three x y' w)) (k a b)))
 
 module _ (φ : Phase) (bytes others : List ℕ) (count place : ℕ) where
   pub set-covered : length others ≡ length bytes → SameThere φ others bytes count place
-      → ((reading φ bytes count place).answer ≡ Passed → SameThere φ others bytes count (second_place φ bytes count place))
-      → ((reading φ bytes count place).answer ≡ Passed → (reading φ bytes count (second_place φ bytes count place)).answer ≡ Passed
+      → (answer_of (reading φ bytes count place) ≡ Ok tt → SameThere φ others bytes count (second_place φ bytes count place))
+      → (answer_of (reading φ bytes count place) ≡ Ok tt → answer_of (reading φ bytes count (second_place φ bytes count place)) ≡ Ok tt
       → SameThere φ others bytes count (third_place φ bytes count place))
       → set_reading φ others count place ≡ set_reading φ bytes count place
   unfolding set_reading
   set-covered l same₁ same₂ same₃ =
-      let old : ℕ → Reading = reading φ bytes count in
-      let new : ℕ → Reading = reading φ others count in
-      let after : ℕ → Reading → ℕ = λ p x. p + length_of x.content.kind in
+      let old : ℕ → Result Record Refusal = reading φ bytes count in
+      let new : ℕ → Result Record Refusal = reading φ others count in
+      let after : ℕ → Result Record Refusal → ℕ = λ p x. p + length_of (content_of x).kind in
       let second = second_place φ bytes count place in
       let third = third_place φ bytes count place in
       let e₁ : new place ≡ old place = reading-covered φ bytes others count place l same₁ in
       let p₂ : second_place φ others count place ≡ second = ap (after place) e₁ in
-      let e₂ : (old place).answer ≡ Passed → new (second_place φ others count place) ≡ old second =
+      let e₂ : answer_of (old place) ≡ Ok tt → new (second_place φ others count place) ≡ old second =
       λ a. ap new p₂ ∙ reading-covered φ bytes others count second l (same₂ a) in
-      let e₃ : (old place).answer ≡ Passed → (old second).answer ≡ Passed → new (third_place φ others count place) ≡ old third =
+      let e₃ : answer_of (old place) ≡ Ok tt → answer_of (old second) ≡ Ok tt → new (third_place φ others count place) ≡ old third =
       λ a b. ap new (ap₂ after p₂ (e₂ a)) ∙ reading-covered φ bytes others count third l (same₃ a b) in
-      ap (λ (x : Reading). from_first x (new (second_place φ others count place)) (new (third_place φ others count place))) e₁
+      ap (λ (x : Result Record Refusal). from_first x (new (second_place φ others count place)) (new (third_place φ others count place))) e₁
       ∙ alike (old place) _ (old second) _ (old third) e₂ e₃
 
 -- ---- what was read is written back
@@ -209,14 +203,9 @@ module _ (φ : Phase) (bytes others : List ℕ) (count place : ℕ) where
 module _ (φ : Phase) (bytes : List ℕ) (count place : ℕ) (s : Set) (below : (i : ℕ) → get_or bytes i 0 < 256)
     (t : SetThere φ bytes count place s) where
   -- each of the three
-  back : (p : ℕ) (r : Record) → reading φ bytes count p ≡ record { answer = Passed; content = r }
+  back : (p : ℕ) (r : Record) → reading φ bytes count p ≡ Ok r
       → WritesBack φ bytes count p r × (p + length_of r.kind ≤ count)
-  back p r e =
-      let a = ap (λ (x : Reading). x.answer) e in
-      let c = ap (λ (x : Reading). x.content) e in (
-        subst (WritesBack φ bytes count p) c (read_back φ bytes count p below a),
-        subst (λ (x : Record). p + length_of x.kind ≤ count) c (read_fits φ bytes count p a),
-      )
+  back p r e = (read_back φ bytes count p below r e, read_fits φ bytes count p r e)
 
   abbrev first : WritesBack φ bytes count place s.first × (place + length_of s.first.kind ≤ count)
   first = back place s.first t.first
@@ -228,12 +217,12 @@ module _ (φ : Phase) (bytes : List ℕ) (count place : ℕ) (s : Set) (below : 
   third = back (place + 500) s.third t.third
 
   inside : Passes bytes count
-  inside = read_passes φ bytes count place (ap (λ (x : Reading). x.answer) t.first)
+  inside = read_passes φ bytes count place s.first t.first
 
   room : place + set_length ≤ count
   room = omega (arith, third.1, (lengths s t.together).2)
 
-  members : member_tests s ≡ Passed
+  members : member_tests s ≡ Ok tt
   unfolding member_tests
   members = then_both first.0.passes (then_both second.0.passes third.0.passes)
 
@@ -313,8 +302,8 @@ module _ (s : Set) (holds : TypedSet s) (t : Together s) where
       ∙ cut_whole 250 (string s.third) size.2
 
 pub set-written-back : (bytes : List ℕ) (count place next : ℕ) (s : Set) → TypedSet s
-    → set_writing (length bytes) count place s ≡ Given next
-    → SetReadsBack (bytes_after (Given next) place (set_bits s) bytes) count place s
+    → set_writing (length bytes) count place s ≡ Ok next
+    → SetReadsBack (bytes_after (Ok next) place (set_bits s) bytes) count place s
 unfolding set_writing set_write_tests member_tests
 set-written-back bytes count place next s holds e =
     let a =

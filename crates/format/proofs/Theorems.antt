@@ -1,4 +1,6 @@
 -- What is proved of the definitions of the papers. Assumes nothing.
+use Rattle.std.specs.Prelude.{Ok}
+use Rattle.format.specs.Tests.{Outcome, answer_of}
 use mathlib.Core.Path.{◌≡◌}
 use mathlib.Core.Bool.{Bool}
 use mathlib.Core.List.{List}
@@ -11,9 +13,6 @@ use Rattle.bits.specs.declared.Phase.TheVariants.{Straight, Inverted}
 use Rattle.bits.specs.Bits.{recorded, complement}
 use Rattle.bits.proofs.Phases.{recorded_true, recorded-back}
 use Rattle.cyclic.specs.Burst.{Burst}
-use Rattle.format.specs.declared.Answer.TheVariants.{Passed}
-use Rattle.format.specs.declared.Outcome.{Outcome}
-use Rattle.format.specs.declared.Outcome.TheVariants.{Given}
 use Rattle.format.specs.declared.Record.{Record}
 use Rattle.format.specs.declared.Set.{Set}
 use Rattle.format.specs.Answers.{answer_code, outcome_code, value_code}
@@ -48,7 +47,7 @@ pub agree : (bits : List Bool) (place long : ℕ) → 0 < long → (standing bit
 agree = Agree.agree
 
 -- The tests 5, 4, 5, 6 pass where a string stands, and only there.
-pub tests_pass : (bits : List Bool) (place : ℕ) → (string_tests bits place ≡ Passed) ↔ Stands bits place (length_of (type_at bits place))
+pub tests_pass : (bits : List Bool) (place : ℕ) → (string_tests bits place ≡ Ok tt) ↔ Stands bits place (length_of (type_at bits place))
 tests_pass bits place = (Agree.pass_stands bits place, Agree.stands_pass)
 
 -- A string that stood stands no more where a burst has changed its bits, if its type still names the same length.
@@ -110,13 +109,13 @@ inverted_back = recorded-back
 -- ---- reading and writing undo each other
 
 -- A record that writes reads back the same, and stands where it was written.
-pub written_back : (bytes : List ℕ) (count place next : ℕ) (r : Record) → Typed r → writing (length bytes) count place r ≡ Given next
-    → ReadsBack (bytes_after (Given next) place (string r) bytes) count place r
+pub written_back : (bytes : List ℕ) (count place next : ℕ) (r : Record) → Typed r → writing (length bytes) count place r ≡ Ok next
+    → ReadsBack (bytes_after (Ok next) place (string r) bytes) count place r
 written_back = RoundTrips.written_back
 
 -- A string that reads writes back to its true bits, and to the bytes that hold them straight.
 pub read_back : (phase : Phase) (bytes : List ℕ) (count place : ℕ) → ((i : ℕ) → get_or bytes i 0 < 256)
-    → (reading phase bytes count place).answer ≡ Passed → WritesBack phase bytes count place (reading phase bytes count place).content
+    → (r : Record) → reading phase bytes count place ≡ Ok r → WritesBack phase bytes count place r
 read_back = RoundTrips.read_back
 
 -- ---- sets
@@ -126,12 +125,12 @@ pub next_time_lem : (time : ℕ) → time ≤ last_time → next_time time ≡ (
 next_time_lem = Sets.next_time_lem
 
 -- The tests 12, 13, 14 pass exactly where three records belong together.
-pub set-passes : (s : Set) → (set_tests s ≡ Passed) ↔ Together s
+pub set-passes : (s : Set) → (set_tests s ≡ Ok tt) ↔ Together s
 set-passes = Sets.set-passes
 
 -- A set is read exactly where its three strings read, end to end, and belong together.
 pub set-exact : (phase : Phase) (bytes : List ℕ) (count place : ℕ) (s : Set)
-    → (set_reading phase bytes count place ≡ record { answer = Passed; content = s }) ↔ SetThere phase bytes count place s
+    → (set_reading phase bytes count place ≡ Ok s) ↔ SetThere phase bytes count place s
 set-exact = Sets.set-exact
 
 -- The bits of a set are 750.
@@ -140,8 +139,8 @@ length-set_bits = Sets.length-set_bits
 
 -- A set that writes reads back the same, and so does each of its strings by itself.
 pub set-written-back : (bytes : List ℕ) (count place next : ℕ) (s : Set) → TypedSet s
-    → set_writing (length bytes) count place s ≡ Given next
-    → SetReadsBack (bytes_after (Given next) place (set_bits s) bytes) count place s
+    → set_writing (length bytes) count place s ≡ Ok next
+    → SetReadsBack (bytes_after (Ok next) place (set_bits s) bytes) count place s
 set-written-back = Sets.set-written-back
 
 -- A set that reads writes back to its true bits, and to the bytes that hold them straight.
@@ -165,9 +164,9 @@ reading-covered = Covered.reading-covered
 -- The same of a set, of which the strings up to and with the first that is refused count.
 pub set-covered : (phase : Phase) (bytes others : List ℕ) (count place : ℕ) → length others ≡ length bytes
     → SameThere phase others bytes count place
-    → ((reading phase bytes count place).answer ≡ Passed → SameThere phase others bytes count (second_place phase bytes count place))
-    → ((reading phase bytes count place).answer ≡ Passed
-    → (reading phase bytes count (second_place phase bytes count place)).answer ≡ Passed
+    → (answer_of (reading phase bytes count place) ≡ Ok tt → SameThere phase others bytes count (second_place phase bytes count place))
+    → (answer_of (reading phase bytes count place) ≡ Ok tt
+    → answer_of (reading phase bytes count (second_place phase bytes count place)) ≡ Ok tt
     → SameThere phase others bytes count (third_place phase bytes count place))
     → set_reading phase others count place ≡ set_reading phase bytes count place
 set-covered = Sets.set-covered
@@ -179,7 +178,7 @@ pub list_numbered : (bytes count room found : ℕ)
 list_numbered = Numbered.list_numbered
 
 pub read_numbered : (phase : Phase) (bytes : List ℕ) (count place : ℕ)
-    → answer_code (reading phase bytes count place).answer ≡ read_returned phase bytes count place
+    → answer_code (reading phase bytes count place) ≡ read_returned phase bytes count place
 read_numbered = Numbered.read_numbered
 
 pub write_numbered : (bytes count place : ℕ) (r : Record)
@@ -187,7 +186,7 @@ pub write_numbered : (bytes count place : ℕ) (r : Record)
 write_numbered = Numbered.write_numbered
 
 pub set_read_numbered : (phase : Phase) (bytes : List ℕ) (count place : ℕ)
-    → answer_code (set_reading phase bytes count place).answer ≡ set_read_returned phase bytes count place
+    → answer_code (set_reading phase bytes count place) ≡ set_read_returned phase bytes count place
 set_read_numbered = Numbered.set_read_numbered
 
 pub set_write_numbered : (bytes count place : ℕ) (s : Set)

@@ -1,20 +1,18 @@
 -- Ephemeris sets: three strings, of types 10, 11 and 12, each where the one before it ends (document 02, U1). Assumes nothing.
+use Rattle.format.specs.declared.Refusal.{Refusal}
+use Rattle.std.specs.Prelude.{Ok, Result}
+use Rattle.format.specs.Tests.{Answer, Outcome, answer_of}
 use Rattle.std.specs.Prelude.{◌≡◌, Bool, cond, ◌&&◌, not, List, [], ◌∷◌, ◌++◌, ◌↔◌, ℕ, ◌+◌, eqb, ltb, length}
 use Rattle.bits.specs.declared.Phase.{Phase}
 use Rattle.bits.specs.declared.Phase.TheVariants.{Straight}
 use Rattle.bits.specs.Bits.{recorded, true_bytes, cut}
-use Rattle.format.specs.declared.Answer.{Answer}
-use Rattle.format.specs.declared.Answer.TheVariants.{Passed}
-use Rattle.format.specs.declared.Outcome.{Outcome}
-use Rattle.format.specs.declared.Outcome.TheVariants.{Given}
 use Rattle.format.specs.declared.Refusal.TheVariants.{RunsOut, OtherTypes, OtherSatellites, OtherTimes}
 use Rattle.format.specs.declared.Set.{Set}
-use Rattle.format.specs.declared.SetReading.{SetReading}
 use Rattle.format.specs.Answers.{answer_code, outcome_code}
-use Rattle.format.specs.Reading.{reading, read_lines, SameThere}
-use Rattle.format.specs.Records.{blank, record_tests, record_lines}
+use Rattle.format.specs.Reading.{reading, read_lines, SameThere, content_of}
+use Rattle.format.specs.Records.{record_tests, record_lines, blank}
 use Rattle.format.specs.Strings.{length_of}
-use Rattle.format.specs.Tests.{is_passed, when, ◌then◌, giving, Line, on, returned, above, place_tests, place_lines}
+use Rattle.format.specs.Tests.{when, ◌then◌, giving, Line, on, returned, above, place_tests, place_lines}
 use Rattle.format.specs.Types.{last_time}
 use Rattle.format.specs.Writing.{string, bytes_after, ReadsBack}
 
@@ -54,36 +52,33 @@ pub record Together (s : Set) : Type 0 where
 
 -- The place of the second string, where the first ends by the type that was read, and that of the third, where the second ends.
 abbrev pub second_place : Phase → List ℕ → ℕ → ℕ → ℕ
-second_place phase bytes count place = place + length_of (reading phase bytes count place).content.kind
+second_place phase bytes count place = place + length_of (content_of (reading phase bytes count place)).kind
 
 abbrev pub third_place : Phase → List ℕ → ℕ → ℕ → ℕ
 third_place phase bytes count place =
-    second_place phase bytes count place + length_of (reading phase bytes count (second_place phase bytes count place)).content.kind
+    second_place phase bytes count place
+    + length_of (content_of (reading phase bytes count (second_place phase bytes count place))).kind
 
 -- The records of the three strings, each read by itself.
 abbrev pub set_at : Phase → List ℕ → ℕ → ℕ → Set
 set_at phase bytes count place =
     record {
-      first = (reading phase bytes count place).content;
-      second = (reading phase bytes count (second_place phase bytes count place)).content;
-      third = (reading phase bytes count (third_place phase bytes count place)).content;
+      first = content_of (reading phase bytes count place);
+      second = content_of (reading phase bytes count (second_place phase bytes count place));
+      third = content_of (reading phase bytes count (third_place phase bytes count place));
     }
 
 -- Three records with every place 0.
 abbrev pub blank_set : Set
 blank_set = record { first = blank; second = blank; third = blank }
 
--- An answer beside a set, which is blank where the answer is a refusal.
-abbrev pub beside_set : Answer → Set → SetReading
-beside_set a s = record { answer = a; content = cond (is_passed a) s blank_set }
-
 -- Reading a set: what refuses the first string, the second, the third, and then 12, 13, 14.
-unfoldable pub set_reading : Phase → List ℕ → ℕ → ℕ → SetReading
+unfoldable pub set_reading : Phase → List ℕ → ℕ → ℕ → Result Set Refusal
 set_reading phase bytes count place =
-    beside_set
-    ((reading phase bytes count place).answer
-    then (reading phase bytes count (second_place phase bytes count place)).answer
-    then (reading phase bytes count (third_place phase bytes count place)).answer
+    giving
+    (answer_of (reading phase bytes count place)
+    then answer_of (reading phase bytes count (second_place phase bytes count place))
+    then answer_of (reading phase bytes count (third_place phase bytes count place))
     then set_tests (set_at phase bytes count place))
     (set_at phase bytes count place)
 
@@ -100,9 +95,9 @@ set_read_returned phase bytes count place = returned (set_read_lines phase bytes
 -- What it means, in words, that a set is read at a place: its three records are read there, 250 bits on and 500 bits on, and they belong
 -- together.
 pub record SetThere (phase : Phase) (bytes : List ℕ) (count place : ℕ) (s : Set) : Type 0 where
-  pub first : reading phase bytes count place ≡ record { answer = Passed; content = s.first }
-  pub second : reading phase bytes count (place + 250) ≡ record { answer = Passed; content = s.second }
-  pub third : reading phase bytes count (place + 500) ≡ record { answer = Passed; content = s.third }
+  pub first : reading phase bytes count place ≡ Ok s.first
+  pub second : reading phase bytes count (place + 250) ≡ Ok s.second
+  pub third : reading phase bytes count (place + 500) ≡ Ok s.third
   pub together : Together s
 
 -- ---- writing
@@ -149,7 +144,7 @@ set_write_returned bytes count place s = returned (set_write_lines bytes count p
 -- What holds where a set was written, which is always straight: reading gives the set back, and each of its strings stands and reads by
 -- itself.
 pub record SetReadsBack (bytes : List ℕ) (count place : ℕ) (s : Set) : Type 0 where
-  pub reads : set_reading Straight bytes count place ≡ record { answer = Passed; content = s }
+  pub reads : set_reading Straight bytes count place ≡ Ok s
   pub first : ReadsBack bytes count place s.first
   pub second : ReadsBack bytes count (place + 250) s.second
   pub third : ReadsBack bytes count (place + 500) s.third
@@ -157,32 +152,32 @@ pub record SetReadsBack (bytes : List ℕ) (count place : ℕ) (s : Set) : Type 
 -- What holds of a set that was read: it passes the tests of its records and of a set, its bits are the true ones there, and writing it at
 -- that place of the bytes that hold the true bits straight changes none of them.
 pub record SetWritesBack (phase : Phase) (bytes : List ℕ) (count place : ℕ) (s : Set) : Type 0 where
-  pub passes : (member_tests s ≡ Passed) × (set_tests s ≡ Passed)
+  pub passes : (member_tests s ≡ Ok tt) × (set_tests s ≡ Ok tt)
   pub same_bits : set_bits s ≡ cut place set_length (recorded phase bytes count)
-  pub writes : set_writing (length bytes) count place s ≡ Given (place + set_length)
-  pub same_bytes : bytes_after (Given (place + set_length)) place (set_bits s) (true_bytes phase bytes) ≡ true_bytes phase bytes
+  pub writes : set_writing (length bytes) count place s ≡ Ok (place + set_length)
+  pub same_bytes : bytes_after (Ok (place + set_length)) place (set_bits s) (true_bytes phase bytes) ≡ true_bytes phase bytes
 
 -- ---- what the functions promise
 
 -- What reading a set promises, of the phase, the lent bytes, the bit count, the place and what it gives.
-pub record SetReadPromise (phase : Phase) (bytes : List ℕ) (count place : ℕ) (found : SetReading) : Type 0 where
-  -- the answer, beside the set or a blank one
+pub record SetReadPromise (phase : Phase) (bytes : List ℕ) (count place : ℕ) (found : Result Set Refusal) : Type 0 where
+  -- the set, or why there is none
   pub answered : found ≡ set_reading phase bytes count place
   -- the same by number and value
-  pub numbered : answer_code found.answer ≡ set_read_returned phase bytes count place
+  pub numbered : answer_code found ≡ set_read_returned phase bytes count place
   -- an inverted recording reads as its complement does straight
   pub straight : found ≡ set_reading Straight (true_bytes phase bytes) count place
   -- a set is given exactly where its three strings read, end to end, and belong together
-  pub exact : (s : Set) → (found ≡ record { answer = Passed; content = s }) ↔ SetThere phase bytes count place s
+  pub exact : (s : Set) → (found ≡ Ok s) ↔ SetThere phase bytes count place s
   -- a set that reads is written back to its true bits
-  pub back : found.answer ≡ Passed → SetWritesBack phase bytes count place found.content
+  pub back : (s : Set) → found ≡ Ok s → SetWritesBack phase bytes count place s
   -- of the bytes, only those that the strings cover count, up to and with the first that is refused: as many others that agree on these
   -- read alike
   pub covered : (others : List ℕ) → length others ≡ length bytes
       → SameThere phase others bytes count place
-      → ((reading phase bytes count place).answer ≡ Passed → SameThere phase others bytes count (second_place phase bytes count place))
-      → ((reading phase bytes count place).answer ≡ Passed
-      → (reading phase bytes count (second_place phase bytes count place)).answer ≡ Passed
+      → (answer_of (reading phase bytes count place) ≡ Ok tt → SameThere phase others bytes count (second_place phase bytes count place))
+      → (answer_of (reading phase bytes count place) ≡ Ok tt
+      → answer_of (reading phase bytes count (second_place phase bytes count place)) ≡ Ok tt
       → SameThere phase others bytes count (third_place phase bytes count place))
       → found ≡ set_reading phase others count place
 
@@ -194,4 +189,4 @@ pub record SetWritePromise (before : List ℕ) (count place : ℕ) (s : Set) (an
   -- the answer by number and value
   pub numbered : outcome_code answer ≡ set_write_returned (length before) count place s
   -- a set that writes reads back the same
-  pub back : (next : ℕ) → answer ≡ Given next → SetReadsBack after count place s
+  pub back : (next : ℕ) → answer ≡ Ok next → SetReadsBack after count place s

@@ -1,20 +1,31 @@
 -- Tests, one after another, and those of a bit count and a place (document 01, "What is returned, and when"). Assumes nothing.
+use Rattle.std.specs.Prelude.{Ok, Err, Result}
 use Rattle.std.specs.Prelude.{Bool, true, false, cond, not, List, [], ◌∷◌, ◌++◌, ℕ, ◌*◌, ◌≤◌, ltb, length}
-use Rattle.format.specs.declared.Answer.{Answer}
-use Rattle.format.specs.declared.Answer.TheVariants.{Passed, Refused}
-use Rattle.format.specs.declared.Outcome.{Outcome}
-use Rattle.format.specs.declared.Outcome.TheVariants.{Given, NotGiven}
 use Rattle.format.specs.declared.Refusal.{Refusal}
 use Rattle.format.specs.declared.Refusal.TheVariants.{TooLong, BeyondBytes, BeyondCount}
 
+-- What a test answers, and a function that gives nothing beside: nothing is wrong, or why it is refused.
+abbrev pub Answer : Type 0
+Answer = Result (Unit {0}) Refusal
+
+-- What a function answers that gives a number: listing how many starts it found, writing the place after what it wrote, an accuracy factor
+-- the centimetres, a day count the days since 1 January 1996; or why it gives none.
+abbrev pub Outcome : Type 0
+Outcome = Result ℕ Refusal
+
+-- What an answer says as a test, whatever it gives: nothing is wrong, or why it is refused.
+abbrev pub answer_of : {A : Type 0} → Result A Refusal → Answer
+answer_of (Ok x) = Ok tt
+answer_of (Err r) = Err r
+
 -- A test: refused where the condition holds.
 unfoldable pub when : Bool → Refusal → Answer
-when b r = cond b (Refused r) Passed
+when b r = cond b (Err r) (Ok tt)
 
 -- Whether nothing was refused.
 abbrev pub is_passed : Answer → Bool
-is_passed Passed = true
-is_passed (Refused r) = false
+is_passed (Ok u) = true
+is_passed (Err r) = false
 
 -- Whether something was refused.
 abbrev pub refuses : Answer → Bool
@@ -25,10 +36,10 @@ infixr 5 ◌then◌
 unfoldable pub ◌then◌ : Answer → Answer → Answer
 a then b = cond (is_passed a) b a
 
--- What a function answers that gives a number where its tests pass.
-abbrev pub giving : Answer → ℕ → Outcome
-giving Passed n = Given n
-giving (Refused r) n = NotGiven r
+-- What a function answers that gives something where its tests pass.
+abbrev pub giving : {A : Type 0} → Answer → A → Result A Refusal
+giving (Ok u) x = Ok x
+giving (Err r) x = Err r
 
 -- ---- by number and value
 

@@ -1,10 +1,14 @@
 -- The numbers of the C interface that name a phase, and its structs, from the answers and their numbers and values. Assumes nothing.
-use Rattle.std.specs.Prelude.{ℕ, zero, suc, Float}
+use Rattle.std.specs.Prelude.{false, ℕ, zero, suc, Float, pos, Ok, Err, Result}
+use Rattle.std.specs.Float.{fin}
 use Rattle.bits.specs.declared.Phase.{Phase}
 use Rattle.bits.specs.declared.Phase.TheVariants.{Straight, Inverted}
+use Rattle.format.specs.declared.Record.{Record}
+use Rattle.format.specs.declared.Refusal.{Refusal}
+use Rattle.format.specs.declared.Set.{Set}
 use Rattle.format.specs.Answers.{answer_code}
-use Rattle.format.specs.declared.Reading.{Reading}
-use Rattle.format.specs.declared.SetReading.{SetReading}
+use Rattle.format.specs.Records.{blank}
+use Rattle.format.specs.Sets.{blank_set}
 use Rattle.answers.specs.declared.Code.{Code}
 use Rattle.l1oc.specs.declared.ReadCode.{ReadCode}
 use Rattle.l1oc.specs.declared.SetCode.{SetCode}
@@ -19,14 +23,18 @@ phase_of (suc n) = Inverted
 abbrev pub coded : ℕ × ℕ → Code
 coded p = record { number = p.0; value = p.1 }
 
--- The number and the value of reading's answer, and the record beside it.
-abbrev pub read_coded : Reading → ReadCode
-read_coded r = record { number = (answer_code r.answer).0; value = (answer_code r.answer).1; content = r.content }
+-- What is given, or what stands for it beside a refusal.
+abbrev pub given_or : {T : Type 0} → T → Result T Refusal → T
+given_or other (Ok x) = x
+given_or other (Err r) = other
 
--- The same of a set.
-abbrev pub set_coded : SetReading → SetCode
-set_coded r = record { number = (answer_code r.answer).0; value = (answer_code r.answer).1; content = r.content }
+-- The number and the value of an answer, and what it gives: a record that is read, a set, a value. Beside a refusal they are blank, or
+-- 0.0.
+abbrev pub read_coded : Result Record Refusal → ReadCode
+read_coded a = record { number = (answer_code a).0; value = (answer_code a).1; content = given_or blank a }
 
--- A number, a value and a float.
-abbrev pub value_coded : ℕ × ℕ × Float → ValueCode
-value_coded p = record { number = p.0; value = p.1; scaled = p.2 }
+abbrev pub set_coded : Result Set Refusal → SetCode
+set_coded a = record { number = (answer_code a).0; value = (answer_code a).1; content = given_or blank_set a }
+
+abbrev pub value_coded : Result Float Refusal → ValueCode
+value_coded a = record { number = (answer_code a).0; value = (answer_code a).1; scaled = given_or (fin false 0 (pos 0)) a }

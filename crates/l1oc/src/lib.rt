@@ -2,7 +2,8 @@
 #![tactic(auto)]
 
 ghost use Rattle.std.specs.Prelude.{◌≡◌, length};
-ghost use Rattle.format.specs.Answers.{outcome_code, value_code};
+ghost use Rattle.std.specs.Result.{ResultUnwrapsOrElse};
+ghost use Rattle.format.specs.Answers.{answer_code, outcome_code};
 ghost use Rattle.format.specs.Demand3.{ListPromise};
 ghost use Rattle.format.specs.Listing.{listing, list_returned};
 ghost use Rattle.format.specs.Reading.{reading, read_returned};
@@ -15,7 +16,7 @@ ghost use Rattle.l1oc.specs.Codes.{phase_of, coded, read_coded, set_coded, value
 
 use answers::Code;
 use bits::Phase;
-use format::{Record, Set, Value};
+use format::{Record, Refusal, Set};
 
 // What reading answers: 0 and 0 beside the record, or a refusal beside a blank one.
 #[repr(C)]
@@ -44,34 +45,22 @@ pub struct ValueCode {
     pub scaled: f64,
 }
 
-// Number, value and float of what scaling answers.
-fn value_code(answer: Value) -> ValueCode
-    ensures { (result.number ≡ (value_code answer).0) × (result.value ≡ (value_code answer).1) × (result.scaled ≡ (value_code answer).2) }
+// Number and value of an answer, and what it gives; a blank one beside a refusal.
+fn parts<T: Default + Copy>(answer: Result<T, Refusal>) -> (Code, T)
+    ensures { (result.0.number ≡ (answer_code answer).0) × (result.0.value ≡ (answer_code answer).1)
+        × ResultUnwrapsOrElse answer T.is_default result.1 }
 {
-    match answer {
-        Value::Number(x) => ValueCode {
-            number: 0,
-            value: 0,
-            scaled: x,
-        },
-        Value::NoValue(refusal) => {
-            let code = answers::refusal_code(refusal);
-            ValueCode {
-                number: code.number,
-                value: code.value,
-                scaled: 0.0,
-            }
-        }
-    }
+    (answers::answer_code(&answer), answer.unwrap_or_default())
 }
 
 // The phase that a number names: 0 straight, every other inverted.
 fn phase_of(number: u32) -> Phase
     ensures { result ≡ phase_of number }
 {
-    match number {
-        0 => Phase::Straight,
-        _ => Phase::Inverted,
+    if number == 0 {
+        Phase::Straight
+    } else {
+        Phase::Inverted
     }
 }
 
@@ -83,8 +72,7 @@ pub extern "C" fn l1oc_list(bytes: &[u8], count: usize, phase: u32, list: &mut [
     ensures list_promise { ListPromise (phase_of phase) bytes.now count list.old
         (listing (phase_of phase) bytes.now count (length list.old)) list.new }
 {
-    let answer = listing::list(bytes, count, phase_of(phase), list);
-    answers::outcome_code(answer)
+    answers::outcome_code(listing::list(bytes, count, phase_of(phase), list))
 }
 
 // Reads the string at a place: the answer, beside the record or a blank one.
@@ -97,13 +85,15 @@ pub extern "C" fn l1oc_read(bytes: &[u8], count: usize, phase: u32, place: usize
         (reading (phase_of phase) bytes.now count place) }
     ensures writes_back { result.number ≡ 0 → WritesBack (phase_of phase) bytes.now count place result.content }
 {
-    let found = reading::read(bytes, count, phase_of(phase), place);
-    let answer = found.answer;
-    let content = found.content;
-    let code = answers::answer_code(answer);
+    let (Code { number, value }, content) = parts(reading::read(
+        bytes,
+        count,
+        phase_of(phase),
+        place,
+    ));
     ReadCode {
-        number: code.number,
-        value: code.value,
+        number,
+        value,
         content,
     }
 }
@@ -117,8 +107,7 @@ pub extern "C" fn l1oc_write(bytes: &mut [u8], count: usize, place: usize, conte
         bytes.new }
     ensures reads_back { result.number ≡ 0 → ReadsBack bytes.new count place content }
 {
-    let answer = writing::write(bytes, count, place, content);
-    answers::outcome_code(answer)
+    answers::outcome_code(writing::write(bytes, count, place, content))
 }
 
 // Reads the set at a place: the answer, beside the set or a blank one.
@@ -131,13 +120,10 @@ pub extern "C" fn l1oc_read_set(bytes: &[u8], count: usize, phase: u32, place: u
         (set_reading (phase_of phase) bytes.now count place) }
     ensures set_writes_back { result.number ≡ 0 → SetWritesBack (phase_of phase) bytes.now count place result.content }
 {
-    let found = sets::read(bytes, count, phase_of(phase), place);
-    let answer = found.answer;
-    let content = found.content;
-    let code = answers::answer_code(answer);
+    let (Code { number, value }, content) = parts(sets::read(bytes, count, phase_of(phase), place));
     SetCode {
-        number: code.number,
-        value: code.value,
+        number,
+        value,
         content,
     }
 }
@@ -151,20 +137,23 @@ pub extern "C" fn l1oc_write_set(bytes: &mut [u8], count: usize, place: usize, c
         (set_writing (length bytes.old) count place content) bytes.new }
     ensures set_reads_back { result.number ≡ 0 → SetReadsBack bytes.new count place content }
 {
-    let answer = sets::write(bytes, count, place, content);
-    answers::outcome_code(answer)
+    answers::outcome_code(sets::write(bytes, count, place, content))
 }
 
 // The value of a record's field by its number.
 #[unsafe(no_mangle)]
 pub extern "C" fn l1oc_scaled(content: Record, field: usize) -> ValueCode
-    ensures answered { result ≡ value_coded (value_code (scaling content field)) }
+    ensures answered { result ≡ value_coded (scaling content field) }
     ensures numbered { (result.number ≡ (scale_returned content field).0) × (result.value ≡ (scale_returned content field).1) }
     ensures scale_promise { ScalePromise content field (scaling content field) }
     ensures scaled { result.number ≡ 0 → IsScaled (count_of content field) (power_of content.kind field) result.scaled }
 {
-    let answer = values::scaled(content, field);
-    value_code(answer)
+    let (Code { number, value }, scaled) = parts(values::scaled(&content, field));
+    ValueCode {
+        number,
+        value,
+        scaled,
+    }
 }
 
 // The centimetres of an accuracy factor.
@@ -173,8 +162,7 @@ pub extern "C" fn l1oc_accuracy(factor: i64) -> Code
     ensures answered { result ≡ coded (outcome_code (accuracy factor)) }
     ensures numbered { result ≡ coded (accuracy_returned factor) }
 {
-    let answer = values::accuracy(factor);
-    answers::outcome_code(answer)
+    answers::outcome_code(values::accuracy(factor))
 }
 
 // The days from 1 January 1996 to day `nt` of the four-year interval `n4`.
@@ -183,6 +171,5 @@ pub extern "C" fn l1oc_day_count(n4: i64, nt: i64) -> Code
     ensures answered { result ≡ coded (outcome_code (day_count n4 nt)) }
     ensures numbered { result ≡ coded (days_returned n4 nt) }
 {
-    let answer = values::day_count(n4, nt);
-    answers::outcome_code(answer)
+    answers::outcome_code(values::day_count(n4, nt))
 }

@@ -1,9 +1,6 @@
 -- What is read into a buffer. No contract can say which bytes a read puts there. Assumes nothing.
-use Rattle.std.specs.Prelude.{ℕ, ◌≤◌}
-use Rattle.list.specs.declared.Input.{Input}
-use Rattle.list.specs.declared.Input.TheVariants.{Came, Unreadable}
+use Rattle.std.specs.Prelude.{ℕ, ◌≤◌, Result, IfOk}
 
--- No more bytes came than the buffer has.
-abbrev pub CameIn : ℕ → Input → Type 0
-CameIn room (Came n) = n ≤ room
-CameIn room Unreadable = Unit {0}
+-- Where the input can be read, no more bytes came than the buffer has.
+abbrev pub CameIn : {E : Type 0} → ℕ → Result ℕ E → Type 0
+CameIn room came = IfOk came (λ n. n ≤ room)

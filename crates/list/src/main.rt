@@ -5,18 +5,11 @@ ghost use Rattle.std.specs.Prelude.{length};
 ghost use Rattle.list.specs.Input.{CameIn};
 
 use std::env::{Env, FillError};
-use std::io::{ErrorKind, Read};
+use std::io::{self, ErrorKind, Read};
 use std::thread;
 
 // How often in a row input that is not there yet is asked for again: for about a minute.
 const PATIENCE: usize = 67108864;
-
-// What came from standard input: so many bytes, none at its end; or it can't be read.
-#[derive(Clone, Copy)]
-pub enum Input {
-    Came(usize),
-    Unreadable,
-}
 
 // Says on standard error what is wrong.
 fn complain(rt: &impl Eprint, text: &str) {
@@ -24,39 +17,32 @@ fn complain(rt: &impl Eprint, text: &str) {
 }
 
 // Reads from the input once. Where nothing is there yet, as on a pipe that does not wait, or a signal came between, it reads again.
-fn read_once<R: Read>(input: &mut R, buf: &mut [u8]) -> Input
+fn read_once<R: Read>(input: &mut R, buf: &mut [u8]) -> io::Result<usize>
     ensures { CameIn (length buf.old) result }
 {
     for _ in 0..PATIENCE {
         match input.read(buf) {
-            Ok(n) => return Input::Came(n),
-            Err(error) => {
-                if !matches!(error.kind(), ErrorKind::WouldBlock | ErrorKind::Interrupted) {
-                    return Input::Unreadable;
-                }
-            }
+            Err(error) if matches!(error.kind(), ErrorKind::WouldBlock | ErrorKind::Interrupted) =>
+                thread::yield_now(),
+            came => return came,
         }
-        thread::yield_now();
     }
-    Input::Unreadable
+    Err(ErrorKind::WouldBlock.into())
 }
 
 // Reads the input until the buffer is full or the input ends, and answers how many bytes came.
-fn read_input<R: Read>(input: &mut R, buf: &mut [u8]) -> Input
+fn read_input<R: Read>(input: &mut R, buf: &mut [u8]) -> io::Result<usize>
     ensures { CameIn (length buf.old) result }
 {
     let mut done: usize = 0;
     while done < buf.len() {
-        let next = read_once(input, &mut buf[done..]);
-        let Input::Came(n) = next else {
-            return Input::Unreadable;
-        };
+        let n = read_once(input, &mut buf[done..])?;
         if n == 0 {
-            return Input::Came(done);
+            break;
         }
         done += n;
     }
-    Input::Came(done)
+    Ok(done)
 }
 
 // Prints the report of a recording.
@@ -72,10 +58,9 @@ fn print_report(rt: &(impl Print + Eprint), rec: &[u8]) {
 // the same for every input that begins with them (`report::report`).
 fn list_input(rt: &HostRuntime) {
     let mut rec = [0u8; report::BYTES];
-    let read = read_input(&mut rt.stdin(), &mut rec);
-    match read {
-        Input::Came(n) => print_report(rt, &rec[0..n]),
-        Input::Unreadable => complain(rt, "list: the input can't be read"),
+    match read_input(&mut rt.stdin(), &mut rec) {
+        Ok(n) => print_report(rt, &rec[..n]),
+        Err(_) => complain(rt, "list: the input can't be read"),
     }
 }
 

@@ -1,88 +1,54 @@
 // The listing of a recording: the starts of the strings that stand in it.
 #![tactic(auto)]
 
-ghost use Rattle.std.specs.Prelude.{◌≡◌, cond, ◌≤◌, ltb, length, set, take};
-ghost use Rattle.bits.specs.Bits.{recorded, put};
+ghost use Rattle.std.specs.Prelude.{◌≡◌, cond, ltb, length, set, take};
+ghost use Rattle.bits.specs.Bits.{put};
 ghost use Rattle.format.specs.Demand3.{ListPromise};
 ghost use Rattle.format.specs.Listing.{starts};
-ghost use Rattle.format.specs.Tests.{Passes};
-ghost use Rattle.types.specs.Generators.{Tables};
+ghost use Rattle.recording.specs.Recorded.{bits_of};
 
 use bits::Phase;
-use format::{Answer, Outcome, Refusal};
+use format::Refusal;
+use recording::Recording;
 
-// Puts a start at an index of the list, if that is below `room`.
-fn note(list: &mut [u32], index: usize, room: usize, start: u32)
-    requires { room ≤ length list.old }
-    ensures { list.new ≡ cond (ltb index room) (set list.old index start) list.old }
+// Puts a start at an index of the list, if it has that entry.
+fn note(list: &mut [u32], index: usize, start: u32)
+    ensures { list.new ≡ cond (ltb index (length list.old)) (set list.old index start) list.old }
 {
-    if index < room {
+    if index < list.len() {
         list[index] = start;
     }
 }
 
-// How many starts the rule finds; the first of them, as many as `room`, go to the front of the list.
-fn scan(
-    rec: &[u8],
-    count: usize,
-    phase: Phase,
-    list: &mut [u32],
-    room: usize,
-    t16: &[u32],
-    t24: &[u32],
-) -> usize
-    requires { Passes rec.now count × (room ≤ length list.old) × Tables t16.now t24.now }
-    ensures found { result ≡ length (starts (recorded phase rec.now count)) }
-    ensures left { list.new ≡ put 0 (take room (starts (recorded phase rec.now count))) list.old }
+// How many starts the rule finds; the first of them, as many as the list has entries, go to its front.
+fn scan(rec: Recording, list: &mut [u32]) -> usize
+    ensures found { result ≡ length (starts (bits_of rec.entry)) }
+    ensures left { list.new ≡ put 0 (take (length list.old) (starts (bits_of rec.entry))) list.old }
 {
     let mut found: usize = 0;
     let mut p: usize = 0;
-    while p < count {
-        let long = standing::standing(rec, count, phase, p, t16, t24);
-        if long == 0 {
-            p = search::next_mark(rec, count, phase, p + 1);
-        } else {
-            note(list, found, room, p as u32);
+    while p < rec.count {
+        if let Some(long) = standing::standing(rec, p) {
+            note(list, found, p as u32);
             found += 1;
             p += long;
+        } else {
+            p = search::next_mark(rec.part, rec.count, p + 1);
         }
     }
     found
 }
 
-// The listing of a recording whose bit count passes, by the tables of both generators. The starts are counted first only where the list
-// could be too short.
-fn list_with(
-    rec: &[u8],
-    count: usize,
-    phase: Phase,
-    list: &mut [u32],
-    t16: &[u32],
-    t24: &[u32],
-) -> Outcome
-    requires { Passes rec.now count × Tables t16.now t24.now }
+// Lists the starts of the strings in the first `count` true bits of `rec`. They are counted first only where the list could be too short.
+pub fn list(rec: &[u8], count: usize, phase: Phase, list: &mut [u32]) -> Result<usize, Refusal>
     ensures { ListPromise phase rec.now count list.old result list.new }
 {
-    let room = list.len();
-    if count / 125 <= room {
-        return Outcome::Given(scan(rec, count, phase, list, room, t16, t24));
+    let recording = Recording::new(rec, count, phase)?;
+    if list.len() < count / 125 {
+        let needed = scan(recording, &mut []);
+        if list.len() < needed {
+            return Err(Refusal::ListShort(needed));
+        }
     }
-    let needed = scan(rec, count, phase, list, 0, t16, t24);
-    if room < needed {
-        return Outcome::NotGiven(Refusal::ListShort(needed));
-    }
-    Outcome::Given(scan(rec, count, phase, list, room, t16, t24))
-}
-
-// Lists the starts of the strings in the first `count` true bits of `rec`.
-pub fn list(rec: &[u8], count: usize, phase: Phase, list: &mut [u32]) -> Outcome
-    ensures { ListPromise phase rec.now count list.old result list.new }
-{
-    let counted = answers::count_tests(rec.len(), count);
-    if let Answer::Refused(refusal) = counted {
-        return Outcome::NotGiven(refusal);
-    }
-    let t16 = cyclic::tables::table16();
-    let t24 = cyclic::tables::table24();
-    list_with(rec, count, phase, list, &t16, &t24)
+    Ok(scan(recording, list))
 }

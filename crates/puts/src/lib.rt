@@ -4,7 +4,7 @@
 ghost use Rattle.std.specs.Prelude.{◌≡◌, ◌+◌, ◌*◌, ◌^◌, ◌<◌, ◌≤◌, length};
 ghost use Rattle.bits.specs.Bits.{bits, unpack, true_bits, cut, put, bytes_for, pack};
 
-use bits::Phase;
+use bits::Part;
 
 // The byte `b` with the `n` bits after its first `skip` made `c`.
 fn byte_with(b: u8, skip: usize, n: usize, c: u64) -> u8
@@ -13,7 +13,7 @@ fn byte_with(b: u8, skip: usize, n: usize, c: u64) -> u8
 {
     let room = 8 - skip;
     let after = room - n;
-    let x = bits::wide(b);
+    let x = u64::from(b);
     let y = ((x >> room) << room) | ((c << after) | bits::low(x, after));
     y as u8
 }
@@ -64,34 +64,23 @@ pub fn put_field(part: &mut [u8], from: usize, width: usize, value: u64)
     put_bytes(part, first + 1, left, value);
 }
 
-// The smaller of two.
-fn least(a: usize, b: usize) -> usize
-    requires { (0 < a) × (0 < b) }
-    ensures { (0 < result) × (result ≤ a) × (result ≤ b) }
-{
-    if a < b { a } else { b }
-}
-
 // Copies the `n` true bits of `src` from the place `from` on to the place `to` of `dst`, and changes no other bit.
-pub fn copy_bits(dst: &mut [u8], to: usize, src: &[u8], phase: Phase, from: usize, n: usize)
-    requires { (to + n ≤ 8 * length dst.old) × (from + n ≤ 8 * length src.now) × (to + n < 2 ^ 64) × (from + n < 2 ^ 64) }
-    ensures { unpack dst.new ≡ put to (cut from n (true_bits phase src.now)) (unpack dst.old) }
+pub fn copy_bits(dst: &mut [u8], to: usize, src: Part, from: usize, n: usize)
+    requires { (to + n ≤ 8 * length dst.old) × (from + n ≤ 8 * length src.bytes.now) × (to + n < 2 ^ 64) × (from + n < 2 ^ 64) }
+    ensures { unpack dst.new ≡ put to (cut from n (true_bits src.entry.phase src.entry.bytes.now)) (unpack dst.old) }
 {
-    let mut done: usize = 0;
-    while done < n {
-        let k = least(n - done, 57);
-        let v = bits::field(src, phase, from + done, k);
-        put_field(dst, to + done, k, v);
-        done += k;
+    for done in (0..n).step_by(57) {
+        let k = (n - done).min(57);
+        put_field(dst, to + done, k, src.field(from + done, k));
     }
 }
 
 // Makes the first bytes of `dst` those that the `n` true bits of `src` from the place `from` on make, the last one filled up with
 // zeros, and changes no other byte.
-pub fn pack_bits(dst: &mut [u8], src: &[u8], phase: Phase, from: usize, n: usize)
-    requires { (bytes_for n ≤ length dst.old) × (from + n ≤ 8 * length src.now) × (from + n < 2 ^ 63) }
-    ensures { dst.new ≡ put 0 (pack (cut from n (true_bits phase src.now))) dst.old }
+pub fn pack_bits(dst: &mut [u8], src: Part, from: usize, n: usize)
+    requires { (bytes_for n ≤ length dst.old) × (from + n ≤ 8 * length src.bytes.now) × (from + n < 2 ^ 63) }
+    ensures { dst.new ≡ put 0 (pack (cut from n (true_bits src.entry.phase src.entry.bytes.now))) dst.old }
 {
-    copy_bits(dst, 0, src, phase, from, n);
-    put_field(dst, n, (8 - n % 8) % 8, 0);
+    copy_bits(dst, 0, src, from, n);
+    put_field(dst, n, n.next_multiple_of(8) - n, 0);
 }

@@ -1,92 +1,80 @@
 -- What reading answers, where its chain of tests ends. Assumes nothing.
+use Rattle.std.specs.Prelude.{Ok, Err, Result}
 use mathlib.Core.Path.{◌≡◌, refl, sym, ap, ◌∙◌}
-use mathlib.Core.Bool.{Bool, true, false, not}
+use mathlib.Core.Bool.{Bool, true, false}
 use mathlib.Core.List.{List}
 use Prim.Native.Nat.{ℕ, ◌<◌}
 use lib.ListN.{length, get_or}
 use Rattle.bits.specs.declared.Phase.{Phase}
 use Rattle.bits.specs.Bits.{recorded}
-use Rattle.format.specs.declared.Answer.{Answer}
-use Rattle.format.specs.declared.Answer.TheVariants.{Passed, Refused}
-use Rattle.format.specs.declared.Reading.{Reading}
 use Rattle.format.specs.declared.Record.{Record}
 use Rattle.format.specs.declared.Refusal.{Refusal}
-use Rattle.format.specs.declared.Refusal.TheVariants.{CheckFails}
+use Rattle.format.specs.declared.Refusal.TheVariants.{BeyondCount, CheckFails}
 use Rattle.format.specs.Answers.{answer_code}
-use Rattle.format.specs.Reading.{record_at, beside, reading}
+use Rattle.format.specs.Reading.{record_at, reading}
 use Rattle.format.specs.Records.{field_tests}
-use Rattle.format.specs.Standing.{check_passes, string_tests}
-use Rattle.format.specs.Tests.{when, ◌then◌, place_tests}
+use Rattle.format.specs.Standing.{check_passes}
+use Rattle.format.specs.Tests.{when, ◌then◌, answer_of, above, count_tests, place_tests}
 use Rattle.format.specs.Writing.{ReadPromise}
-use Rattle.format.proofs.Order.{refused_then, passed_then, when_yes, when_no}
+use Rattle.format.proofs.Order.{answer_giving}
 use Rattle.format.proofs.Phases.{reads-straight}
 use Rattle.format.proofs.Theorems.{read_back, read_numbered, reading-covered}
 use Rattle.standing.specs.declared.Frame.{Frame}
-use Rattle.standing.specs.declared.Frame.TheVariants.{Framed}
-use Rattle.standing.specs.Frames.{frame_at, frame_tests}
-use Rattle.standing.proofs.Here.{frame_tests_lem}
-use Rattle.reading.specs.Checked.{refused, checked, string_read}
+use Rattle.standing.specs.Frames.{frame_tests, frame_at}
+use Rattle.standing.proofs.Here.{frame_tests_lem, framed_says}
+use Rattle.recording.specs.declared.Recording.{Recording}
+use Rattle.recording.specs.Recorded.{bits_of}
+use Rattle.recording.proofs.Same.{bits_same}
+use Rattle.reading.specs.Checked.{checked}
 
--- ---- 5, 4, 5, 6, 7, 8, of the frame at a place
-module _ (u : List Bool) (p : ℕ) {f : Frame} (e : f ≡ frame_at u p) where
-  abbrev found : Record
-  found = record_at u p
+module _ (φ : Phase) (s : List ℕ) (n p : ℕ) where
+  -- ---- 1, 2
+  pub count_refuses : {x : Refusal} → count_tests (length s) n ≡ Err x → Err x ≡ reading φ s n p
+  unfolding reading place_tests ◌then◌
+  count_refuses e = rw e refl
 
-  by_frame : (g : Frame) → f ≡ g → beside (frame_tests g p (check_passes u p) then field_tests found) found ≡ string_read u p
-  unfolding string_read
-  by_frame g k =
-      ap (λ (a : Answer). beside (a then field_tests found) found)
-      (sym (frame_tests_lem u p ∙ ap (λ (x : Frame). frame_tests x p (check_passes u p)) (sym e ∙ k)))
+  -- ---- 3, of a recording that passes them
+  module _ (r : Recording) (counted : count_tests (length s) n ≡ Ok tt)
+      (same : (r.part.bytes.now ≡ s) × (r.part.phase ≡ φ) × (r.count ≡ n)) where
+    pub place_refuses : {x : Refusal} → when (above p r.count) (BeyondCount p) ≡ Err x → Err x ≡ reading φ s n p
+    unfolding reading place_tests ◌then◌
+    place_refuses e = rw (counted, ← same.2, e) refl
 
-  pub frame_refuses : (g : Frame) (x : Refusal) → frame_tests g p (check_passes u p) ≡ Refused x → f ≡ g → refused x ≡ string_read u p
-  frame_refuses g x h k =
-      sym (ap (λ (z : Answer). beside z found) (ap (λ (z : Answer). z then field_tests found) h ∙ refused_then x _)) ∙ by_frame g k
+    -- ---- 5, 4, 5, of a place in it
+    module _ (placed : when (above p r.count) (BeyondCount p) ≡ Ok tt) where
+      pub frame_refuses : {x : Refusal} → frame_at (bits_of r) p ≡ Err x → Err x ≡ reading φ s n p
+      unfolding reading place_tests ◌then◌ frame_at
+      frame_refuses {x} e =
+          let a : frame_tests (bits_of r) p ≡ Err x = sym (answer_giving (frame_tests (bits_of r) p) _) ∙ ap answer_of e in
+          rw (counted, ← frame_tests_lem (recorded φ s n) p, ← bits_same r same, ← same.2, placed, a) refl
 
-  pub frame_checked : (kind long : ℕ) → f ≡ Framed kind long → checked u p p ≡ string_read u p
-  unfolding checked
-  frame_checked kind long k = by_frame (Framed kind long) k
-
--- ---- 1, 2, 3, then the string
-module _ (φ : Phase) (s : List ℕ) (n p : ℕ) {a : Answer} (e : a ≡ place_tests (length s) n p) where
-  pub place-refuses : (x : Refusal) → a ≡ Refused x → refused x ≡ reading φ s n p
-  unfolding reading
-  place-refuses x f =
-      let r = record_at (recorded φ s n) p in
-      ap (λ (z : Answer). beside z r) (sym (refused_then x _))
-      ∙ ap (λ (z : Answer). beside (z then string_tests (recorded φ s n) p then field_tests r) r) (sym f ∙ e)
-
-  pub place-passes-on : a ≡ Passed → string_read (recorded φ s n) p ≡ reading φ s n p
-  unfolding reading string_read
-  place-passes-on f =
-      let r = record_at (recorded φ s n) p in
-      ap (λ (z : Answer). beside z r) (sym (passed_then _))
-      ∙ ap (λ (z : Answer). beside (z then string_tests (recorded φ s n) p then field_tests r) r) (sym f ∙ e)
+      pub frame_checked : {f : Frame} → frame_at (bits_of r) p ≡ Ok f → checked (bits_of r) p p ≡ reading φ s n p
+      unfolding reading checked place_tests ◌then◌
+      frame_checked e =
+          rw (counted, ← frame_tests_lem (recorded φ s n) p, ← bits_same r same, ← same.2, placed, (framed_says (bits_of r) p e).0) refl
 
 -- ---- 6, 7, 8, of what the check of the bits tells
-module _ (u : List Bool) (o place : ℕ) {t : Bool} (e : t ≡ check_passes u o) where
-  tested : {a : Answer} → when (not t) (CheckFails place) ≡ a
-      → beside (a then field_tests (record_at u o)) (record_at u o) ≡ checked u o place
-  unfolding checked
-  tested f = rw (← f, e) refl
+module _ (u : List Bool) (o place : ℕ) {b : Bool} (e : b ≡ check_passes u o) where
+  pub check_fails : b ≡ false → Err (CheckFails place) ≡ checked u o place
+  unfolding checked when ◌then◌
+  check_fails f = rw (← e, f) refl
 
-  pub check_fails : t ≡ false → refused (CheckFails place) ≡ checked u o place
-  check_fails f =
-      ap (λ (a : Answer). beside a (record_at u o)) (sym (refused_then (CheckFails place) _))
-      ∙ tested (sym (when_yes (CheckFails place) (ap not f)))
+  module _ (f : b ≡ true) {r : Record} (g : r ≡ record_at u o) where
+    pub fields_refuse : {x : Refusal} → field_tests r ≡ Err x → Err x ≡ checked u o place
+    unfolding checked when ◌then◌
+    fields_refuse h = rw (← e, f, ← g, h) refl
 
-  pub fields_tested : {a : Answer} {r : Record} (b : Answer) → t ≡ true → r ≡ record_at u o → a ≡ field_tests r → a ≡ b
-      → beside b r ≡ checked u o place
-  fields_tested {a} {r} b f er ea eb =
-      ap (λ (x : Answer). beside x r) (sym eb ∙ ea)
-      ∙ rw er (ap (λ (x : Answer). beside x (record_at u o)) (sym (passed_then _)) ∙ tested (sym (when_no (CheckFails place) (ap not f))))
+    pub fields_pass : field_tests r ≡ Ok tt → Ok r ≡ checked u o place
+    unfolding checked when ◌then◌
+    fields_pass h = rw (← e, f, ← g, h) refl
 
 -- ---- the promise, of what is given
-pub promised : (φ : Phase) (bytes : List ℕ) (count place : ℕ) → ((i : ℕ) → get_or bytes i 0 < 256) → {r : Reading}
+pub promised : (φ : Phase) (bytes : List ℕ) (count place : ℕ) → ((i : ℕ) → get_or bytes i 0 < 256) → {r : Result Record Refusal}
     → r ≡ reading φ bytes count place → ReadPromise φ bytes count place r
 promised φ bytes count place below e = record {
   answered = e;
-  numbered = ap (λ (x : Reading). answer_code x.answer) e ∙ read_numbered φ bytes count place;
+  numbered = ap (λ (x : Result Record Refusal). answer_code x) e ∙ read_numbered φ bytes count place;
   straight = e ∙ reads-straight φ bytes count below place;
-  back = λ d. rw e (read_back φ bytes count place below (ap (λ (x : Reading). x.answer) (sym e) ∙ d));
+  back = λ r d. read_back φ bytes count place below r (sym e ∙ d);
   covered = λ others l same. e ∙ sym (reading-covered φ bytes others count place l same);
 }

@@ -1,3 +1,3 @@
 pub mod Service
-pub mod Whole
+pub mod Covering
 pub mod Chain

@@ -1,106 +1,90 @@
 // The tests of a record: those of its fields, of its unused places and raw bits, and of its minus-zero mark.
 #![tactic(auto)]
 
-ghost use Rattle.std.specs.Prelude.{◌≡◌, not, ◌&&◌, ◌||◌, eqb};
-ghost use Rattle.bits.specs.Bits.{odd};
+ghost use Rattle.std.specs.Prelude.{◌≡◌, not, ◌&&◌, ◌||◌, pos, get_or};
+ghost use Rattle.std.specs.List.{list_any};
 ghost use Rattle.format.specs.declared.Refusal.TheVariants.{NotZero};
 ghost use Rattle.format.specs.Tests.{when};
-ghost use Rattle.format.specs.Records.{is_zero, unused, stray, mark_bits, record_tests};
+ghost use Rattle.format.specs.Records.{is_zero, unused, may_bear, stray, mark_bits, record_tests};
 ghost use Rattle.format.specs.Types.{mark_width, places_of};
+ghost use Rattle.format.specs.Fields.{absent};
+ghost use Rattle.types.specs.Rows.{Describes};
 
-use format::{Answer, Mark, PLACES, Record, Refusal};
+use format::{Mark, Record, Refusal};
+use types::rows::Place;
 
-// Whether a number that is not 0 is at a place that is not used, one of width 0.
-fn misplaced(width: u8, v: i64) -> bool
-    ensures { result ≡ eqb width 0 && not (is_zero v) }
+// The bits of the minus-zero mark.
+const MARK_BITS: usize = Mark::BITS as usize;
+
+// Whether a number is not 0.
+fn any_set(numbers: &[i64]) -> bool
+    ensures { result ≡ list_any (λ v. not (is_zero v)) numbers.now }
 {
-    if width == 0 { v != 0 } else { false }
+    numbers.iter().any(|v| *v != 0)
 }
 
 // Whether a place that the type does not use is not 0.
-fn unused(kind: u8, numbers: [i64; PLACES]) -> bool
-    ensures { result ≡ unused (places_of kind) numbers }
+fn unused(r: &Record) -> bool
+    ensures { result ≡ unused (places_of r.now.kind) r.now.numbers }
 {
-    let widths = types::widths_of(kind);
-    let mut i: usize = 0;
-    while i < PLACES {
-        if misplaced(widths[i], numbers[i]) {
-            return true;
-        }
-        i += 1;
+    let used = types::places_of(r.kind).len();
+    any_set(&r.numbers[used..])
+}
+
+// Whether the number of a record's place may bear the mark: a signed field's zero. Past the last place there is no field.
+fn bears(r: &Record, places: &[Place], i: usize) -> bool
+    requires { Describes r.now.kind places.now }
+    ensures { result ≡ may_bear (get_or (places_of r.now.kind) i absent) (get_or r.now.numbers i (pos 0)) }
+{
+    match places.get(i) {
+        Some(place) => place.signed && r.numbers[i] == 0,
+        None => false,
     }
-    false
 }
 
-// Whether a number may bear the mark: a signed field's zero.
-fn bears(signed: bool, v: i64) -> bool
-    ensures { result ≡ signed && is_zero v }
+// The lowest bit of the minus-zero mark that is not on a signed field's zero.
+fn stray(r: &Record) -> Result<(), Refusal>
+    ensures { result ≡ stray (places_of r.now.kind) r.now.numbers (mark_bits mark_width r.now.minus) 0 }
 {
-    if signed { v == 0 } else { false }
-}
-
-// Whether the lowest bit of the mark is set where it may not be.
-fn strays(marks: Mark, may: bool) -> bool
-    ensures { result ≡ odd marks && not may }
-{
-    if marks % 2 == 1 { !may } else { false }
-}
-
-// The lowest bit of the minus-zero mark that is not on a signed field's zero; past the last place there is no field.
-fn stray(kind: u8, numbers: [i64; PLACES], minus: Mark) -> Answer
-    ensures { result ≡ stray (places_of kind) numbers (mark_bits mark_width minus) 0 }
-{
-    let row = types::row_of(kind);
-    let signs = row.signed;
-    let mut marks = minus;
-    let mut i: usize = 0;
-    while marks != 0 {
-        let mut may = false;
-        if i < PLACES {
-            may = bears(signs[i], numbers[i]);
-        }
-        if strays(marks, may) {
-            return Answer::Refused(Refusal::MinusZero(i));
+    let places = types::places_of(r.kind);
+    let mut marks = r.minus;
+    for i in 0..MARK_BITS {
+        if marks % 2 == 1 && !bears(r, places, i) {
+            return Err(Refusal::MinusZero(i));
         }
         marks /= 2;
-        i += 1;
     }
-    Answer::Passed
+    Ok(())
 }
 
 // The test of the minus-zero mark, which passes at once where no bit of it is set.
-fn marks_test(kind: u8, numbers: [i64; PLACES], minus: Mark) -> Answer
-    ensures { result ≡ stray (places_of kind) numbers (mark_bits mark_width minus) 0 }
+fn marks_test(r: &Record) -> Result<(), Refusal>
+    ensures { result ≡ stray (places_of r.now.kind) r.now.numbers (mark_bits mark_width r.now.minus) 0 }
 {
-    if minus == 0 {
-        return Answer::Passed;
+    if r.minus == 0 {
+        return Ok(());
     }
-    stray(kind, numbers, minus)
+    stray(r)
 }
 
 // Refused where a place that is not used, or a raw bit past the type's own, is not 0.
-fn zero_test(misplaced: bool, clear: bool) -> Answer
+#[tactic(auto, unfolding(format::specs::Tests::when))]
+fn zero_test(misplaced: bool, clear: bool) -> Result<(), Refusal>
     ensures { result ≡ when (misplaced || not clear) NotZero }
 {
-    if misplaced {
-        return Answer::Refused(Refusal::NotZero);
-    }
-    if clear {
-        Answer::Passed
+    if misplaced || !clear {
+        Err(Refusal::NotZero)
     } else {
-        Answer::Refused(Refusal::NotZero)
+        Ok(())
     }
 }
 
 // The tests of a record: 7, 8, 11, 10.
-pub fn record_tests(r: Record) -> Answer
-    ensures { result ≡ record_tests r }
+pub fn record_tests(r: &Record) -> Result<(), Refusal>
+    ensures { result ≡ record_tests r.now }
 {
-    let numbers = r.numbers;
-    let raw = r.raw;
-    let fields = ranges::field_tests(r);
-    let count = types::raw_count(r.kind);
-    let zeros = zero_test(unused(r.kind, numbers), bits::zero_from(&raw, count));
-    let marks = marks_test(r.kind, numbers, r.minus);
-    answers::first(fields, answers::first(zeros, marks))
+    let clear = bits::zero_from(&r.raw, types::raw_count(r.kind));
+    ranges::field_tests(r)
+        .and(zero_test(unused(r), clear))
+        .and(marks_test(r))
 }

@@ -5,24 +5,25 @@ use mathlib.Core.Path.{◌≡◌, refl, sym, ap, ◌∙◌}
 use Prim.Native.Nat.{ℕ, zero, suc, ◌+◌, ◌*◌, ◌≤◌, ◌<◌}
 use native.Mathlib.Decide.{dec_le}
 use native.Mathlib.Omega.{arith}
-use lib.ListN.{length, length-append, take, drop, get_or}
+use lib.ListN.{length, length-append, length-take, take, drop, get_or}
 use lib.Seq.{take_at, get_or-take}
 use Rattle.bits.specs.declared.Phase.TheVariants.{Straight}
 use Rattle.bits.proofs.Phases.{length-recorded}
-use Rattle.format.specs.Tests.{bit_limit, Passes}
+use Rattle.format.specs.Tests.{Outcome, bit_limit, Passes}
 use Rattle.format.specs.Demand3.{In, ListPromise}
 use Rattle.format.specs.Listing.{starts, list_after}
 use Rattle.format.specs.Standing.{standing}
 use Rattle.format.specs.Strings.{type_at}
-use Rattle.format.specs.declared.Outcome.{Outcome}
-use Rattle.format.specs.declared.Outcome.TheVariants.{Given, NotGiven}
+use Rattle.std.specs.Prelude.{Ok, Err}
 use Rattle.format.specs.declared.Refusal.{Refusal}
 use Rattle.format.proofs.Agree.{length_unit, standing-stands}
 use Rattle.format.proofs.Promise.{answer-starts}
 use Rattle.format.proofs.Tests.{passes_count}
 use Rattle.format.proofs.Rule.{few, listed-stands}
-use Rattle.text.specs.Text.{line_most, Wrote}
-use Rattle.text.proofs.Writing.{wrote_length, wrote_join}
+use Rattle.text.specs.declared.Text.{Text}
+use Rattle.text.specs.Text.{line_most}
+use Rattle.text.specs.Writing.{HasRoom, Adds}
+use Rattle.text.proofs.Writing.{adds_room, adds_join}
 use Rattle.report.specs.Lines.{Within, Inside}
 use Rattle.report.specs.Sizes.{starts_most, report_most}
 use Rattle.report.specs.Report.{header, all_bits, lines, listed, report}
@@ -61,28 +62,28 @@ pub record Found (bytes list : List ℕ) (n : ℕ) : Type 0 where
   pub inside : Inside bytes list n
   pub few_starts : 125 * n ≤ 8 * length bytes
 
-module _ (bytes before list : List ℕ) (answer : Outcome) (p : ListPromise Straight bytes (8 * length bytes) before answer list)
+module _ {bytes before list : List ℕ} {answer : Outcome} (p : ListPromise Straight bytes (8 * length bytes) before answer list)
     (h : Within bytes) (room : length before ≡ starts_most) where
   passes : Passes bytes (8 * length bytes)
   passes = record { short_enough = h; in_bytes = omega arith }
 
   -- The list is long enough for all starts.
-  pub starts-answered : answer ≡ Given (length (starts (all_bits bytes)))
+  pub starts-answered : answer ≡ Ok (length (starts (all_bits bytes)))
   starts-answered =
       p.answered
       ∙ answer-starts (length bytes) (8 * length bytes) (length before) (length (starts (all_bits bytes))) (passes_count passes)
       (omega (arith, starts_few bytes))
 
-  pub never_refused : (r : Refusal) → answer ≡ NotGiven r → ⊥
-  never_refused r e = let s = starts-answered in let z : ◌≡◌ {A = ℕ} 0 1 = cc in omega arith
+  pub never_refused : {r : Refusal} → answer ≡ Err r → ⊥
+  never_refused e = let s = starts-answered in let z : ◌≡◌ {A = ℕ} 0 1 = cc in omega arith
 
   start_inside : (q : ℕ) → In q (starts (all_bits bytes)) → q + 50 ≤ 8 * length bytes
   start_inside q i =
       let s = standing-stands (all_bits bytes) q (standing (all_bits bytes) q) refl (listed-stands (all_bits bytes) q i) in
       omega (arith, s.named, s.fits, length_unit (type_at (all_bits bytes) q), bits-length bytes)
 
-  pub found : (n : ℕ) → answer ≡ Given n → Found bytes list n
-  found n e =
+  pub found : {n : ℕ} → answer ≡ Ok n → Found bytes list n
+  found {n} e =
       let bits = all_bits bytes in
       let s = starts-answered in
       let m : n ≡ length (starts bits) = cc in
@@ -100,12 +101,16 @@ module _ (bytes before list : List ℕ) (answer : Outcome) (p : ListPromise Stra
 
 -- ---- the header, and then the lines
 module _ {bytes list : List ℕ} {n : ℕ} (f : Found bytes list n) (h : Within bytes) where
-  pub lines_fit : {out mid : List ℕ} {at : ℕ} → report_most ≤ length out → Wrote header 0 out mid at → at + line_most * n ≤ length mid
-  lines_fit g v = omega (arith, f.few_starts, v.placed, wrote_length v (omega (arith, v.placed)))
+  pub part_inside : Inside bytes (take n list) (length (take n list))
+  part_inside i k =
+      let g : get_or (take n list) i 0 ≡ get_or list i 0 = get_or-take n list i 0 (omega (arith, length-take n list)) in
+      rw g (f.inside i (omega (arith, length-take n list)))
 
-  pub wrote_listed : {out mid after : List ℕ} {at next : ℕ} → report_most ≤ length out
-      → Wrote header 0 out mid at → Wrote (lines bytes (take n list)) at mid after next → Wrote (listed bytes) 0 out after next
-  wrote_listed {out} {mid} {after} {at} {next} g v w =
-      let u : Wrote (lines bytes (starts (all_bits bytes))) at mid after next = rw f.starts_are at w in
-      let e = length-append header (lines bytes (starts (all_bits bytes))) in
-      wrote_join v u (omega (arith, v.placed, u.placed, listed-length bytes h))
+  module _ {before now : Text} (room : HasRoom report_most before) (v : Adds header before now) where
+    pub lines_fit : HasRoom (line_most * length (take n list)) now
+    lines_fit = adds_room v (line_most * length (take n list)) (omega (arith, f.few_starts, length-take n list))
+
+    pub adds_listed : {after : Text} → Adds (lines bytes (take n list)) now after → Adds (listed bytes) before after
+    adds_listed w =
+        let e = length-append header (lines bytes (starts (all_bits bytes))) in
+        adds_join v (rw f.starts_are at w) (omega (arith, listed-length bytes h))

@@ -1,18 +1,18 @@
 -- A field of a string, lines written one after another, and the two forms of a report. Assumes nothing.
 use mathlib.Core.Bool.{Bool}
 use mathlib.Core.List.{List, [], ◌∷◌, ◌++◌, append_assoc, append-nil}
-use mathlib.Core.Path.{◌≡◌, refl, sym, ap, ◌∙◌, subst}
-use Prim.Native.Nat.{ℕ, ◌+◌, ◌-◌, ◌*◌, ◌/◌, ◌%◌, ◌^◌, ◌≤◌, ◌<◌}
+use mathlib.Core.Path.{◌≡◌, refl, sym, ap, ◌∙◌}
+use Prim.Native.Nat.{ℕ, ◌+◌, ◌-◌, ◌*◌, ◌%◌, ◌^◌, ◌≤◌, ◌<◌}
 use native.Mathlib.Decide.{dec_le}
 use native.Mathlib.Nat.{lt_of_lt_of_le}
 use native.Mathlib.Numerals.{add-one}
 use native.Mathlib.Omega.{arith}
-use lib.ListN.{length, length-append, take, drop, get_or}
+use lib.ListN.{length, length-append, length-take, take, get_or}
 use lib.Pow.{pow_mono}
 use lib.Seq.{take-suc, take_all, length-take-le}
 use borrow.Author.Tests.{lt-ltb, le-ltb}
 use Rattle.bits.specs.declared.Phase.TheVariants.{Straight}
-use Rattle.bits.specs.Bits.{number, unpack, cut, Covers}
+use Rattle.bits.specs.Bits.{number, unpack, cut, Covers, covered_bytes}
 use Rattle.bits.proofs.Bytes.{length-unpack}
 use Rattle.bits.proofs.Phases.{cut-recorded, part_bits}
 use Rattle.bits.proofs.Numbers.{number-cut-lt}
@@ -20,9 +20,11 @@ use Rattle.format.specs.Answers.{answer_code}
 use Rattle.format.specs.Tests.{bit_limit}
 use Rattle.format.specs.Reading.{reading}
 use Rattle.format.specs.Strings.{string_bits, type_at}
-use Rattle.text.specs.Text.{row, line_most, Wrote}
+use Rattle.text.specs.declared.Text.{Text}
+use Rattle.text.specs.Text.{row, line_most}
+use Rattle.text.specs.Writing.{HasRoom, Adds}
 use Rattle.text.proofs.Numerals.{row-most}
-use Rattle.text.proofs.Writing.{wrote_none, wrote_join}
+use Rattle.text.proofs.Writing.{adds_none, adds_room, adds_join}
 use Rattle.report.specs.Lines.{Within}
 use Rattle.report.specs.Report.{refused_line, all_bits, service_numbers, line, lines, listed, report}
 use Rattle.report.specs.Sizes.{bytes_most}
@@ -38,7 +40,7 @@ field_fits bytes offset first last v e h f g k w =
 -- ---- the service fields, from the bytes that they cover
 module _ (bytes : List ℕ) (p : ℕ) (h : p + 50 ≤ 8 * length bytes) where
   abbrev part : List Bool
-  part = unpack (take ((p + 50 + 7) / 8 - p / 8) (drop (p / 8) bytes))
+  part = unpack (covered_bytes p 50 bytes)
 
   same : (first last : ℕ) → 1 ≤ first → first ≤ last → last ≤ 50
       → number (string_bits part (p % 8) first last) ≡ number (string_bits (all_bits bytes) p first last)
@@ -61,7 +63,7 @@ module _ (bytes : List ℕ) (p : ℕ) (h : p + 50 ≤ 8 * length bytes) where
       rw (s13, s19, s32, s34, s35) refl
 
   pub line_is : {service : List ℕ} {result : ℕ} → service ≡ service_numbers part (p % 8)
-      → result ≡ (answer_code (reading Straight bytes (8 * length bytes) p).answer).0
+      → result ≡ (answer_code (reading Straight bytes (8 * length bytes) p)).0
       → row (p ∷ get_or service 0 0 ∷ get_or service 1 0 ∷ get_or service 2 0 ∷ get_or service 3 0 ∷ get_or service 4 0 ∷ result ∷ [])
       ≡ line bytes p
   unfolding line service_numbers
@@ -94,34 +96,33 @@ module _ (bytes : List ℕ) where
   report-listed h = simp (le-ltb bit_limit (8 * length bytes) h)
 
 -- what is read of an input is enough: for a longer one the refusal is printed
-pub report_front : (bytes : List ℕ) → report (take bytes_most bytes) ≡ report bytes
-report_front bytes =
-    elim (dec_le bytes_most (length bytes)) [
+pub report_front : (bytes input : List ℕ) → bytes ≡ take bytes_most input → report input ≡ report bytes
+report_front bytes input e =
+    elim (dec_le bytes_most (length input)) [
       | yes h ↦
-          let l = length-take-le bytes_most bytes h in
-          report-refused (take bytes_most bytes) (omega arith) ∙ sym (report-refused bytes (omega arith))
-      | no h ↦ ap report (take_all bytes_most bytes (omega arith))
+          let l = length-take-le bytes_most input h in
+          report-refused input (omega arith) ∙ sym (report-refused bytes (omega (arith, ap length e)))
+      | no h ↦ ap report (sym (e ∙ take_all bytes_most input (omega arith)))
     ]
 
 -- ---- what is written once the lines of the first j starts are
-pub record LinesSoFar (bytes starts before : List ℕ) (at j : ℕ) (out : List ℕ) (place : ℕ) : Type 0 where
-  pub wrote : Wrote (lines bytes (take j starts)) at before out place
-  pub few : place ≤ at + line_most * j
+module _ (bytes starts : List ℕ) where
+  lines-few : (j : ℕ) → length (lines bytes (take j starts)) ≤ line_most * j
+  lines-few j = omega (arith, lines-length bytes (take j starts), length-take j starts)
 
-module _ (bytes starts before : List ℕ) (at : ℕ) where
-  pub lines_none : LinesSoFar bytes starts before at 0 before at
+  pub lines_none : (before : Text) → Adds (lines bytes (take 0 starts)) before before
   unfolding lines
-  lines_none = record { wrote = wrote_none at before; few = omega arith }
+  lines_none before = adds_none before
 
-  pub lines_more : {j place next : ℕ} {out after : List ℕ} → LinesSoFar bytes starts before at j out place → j < length starts
-      → Wrote (line bytes (get_or starts j 0)) place out after next → at + line_most * (j + 1) ≤ length before
-      → LinesSoFar bytes starts before at (j + 1) after next
-  lines_more {j} {place} {next} {out} {after} b h w g =
-      let p = get_or starts j 0 in
-      let more : lines bytes (take (j + 1) starts) ≡ lines bytes (take j starts) ++ line bytes p =
-      rw (add-one j, take-suc starts j 0 h) (lines_one bytes p (take j starts)) in
-      let small : next ≤ at + line_most * (j + 1) = omega (arith, b.few, w.placed, line-length bytes p) in
-      record {
-        wrote = subst (λ (k : List ℕ). Wrote k at before after next) (sym more) (wrote_join b.wrote w (omega arith));
-        few = small;
-      }
+  module _ {j : ℕ} {before now : Text} (b : Adds (lines bytes (take j starts)) before now)
+      (room : HasRoom (line_most * length starts) before) where
+    pub line_room : j < length starts → HasRoom line_most now
+    line_room h = adds_room b line_most (omega (arith, lines-few j))
+
+    pub lines_more : {after : Text} → j < length starts → Adds (line bytes (get_or starts j 0)) now after
+        → Adds (lines bytes (take (j + 1) starts)) before after
+    lines_more h w =
+        let p = get_or starts j 0 in
+        let more : lines bytes (take (j + 1) starts) ≡ lines bytes (take j starts) ++ line bytes p =
+        rw (add-one j, take-suc starts j 0 h) (lines_one bytes p (take j starts)) in
+        rw more (adds_join b w (omega (arith, lines-few j, line-length bytes p)))

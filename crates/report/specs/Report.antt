@@ -35,7 +35,7 @@ service_numbers bits place =
 unfoldable pub line : List ℕ → ℕ → List ℕ
 line bytes place =
     row (place ∷ (service_numbers (all_bits bytes) place
-    ++ ((answer_code (reading Straight bytes (8 * length bytes) place).answer).0 ∷ [])))
+    ++ ((answer_code (reading Straight bytes (8 * length bytes) place)).0 ∷ [])))
 
 -- A line for each start.
 unfoldable pub lines : List ℕ → List ℕ → List ℕ

@@ -8,12 +8,14 @@ ghost use Rattle.format.specs.Answers.{answer_code};
 ghost use Rattle.format.specs.Reading.{reading};
 ghost use Rattle.format.specs.Strings.{string_bits};
 ghost use Rattle.text.specs.Text.{row, line_most, Wrote};
+ghost use Rattle.text.specs.Writing.{HasRoom, Adds};
 ghost use Rattle.report.specs.Report.{service_numbers, line, lines, listed, report};
 ghost use Rattle.report.specs.Lines.{Within, Inside};
 ghost use Rattle.report.specs.Sizes.{bytes_most, report_most};
 
-use bits::Phase;
-use format::{Limits, Outcome};
+use bits::{Part, Phase};
+use format::Limits;
+use text::Text;
 
 // The most starts that a recording within the limit has, and one more; each string has at least 125 bits.
 pub const STARTS: usize = Limits::BITS / 125 + 1;
@@ -21,17 +23,18 @@ pub const STARTS: usize = Limits::BITS / 125 + 1;
 // The bytes of the longest recording that is not refused, and one more.
 pub const BYTES: usize = Limits::BITS / 8 + 1;
 
-// The most bytes of a report: its header has 34.
-pub const REPORT: usize = 34 + text::LINE * STARTS;
+// The first line of a report.
+const HEADER: &[u8] = b"place,type,number,kp,a,omb,result\n";
+
+// The most bytes of a report.
+pub const REPORT: usize = HEADER.len() + text::LINE * STARTS;
 
 // The number that reading answers at a place.
 fn result_at(rec: &[u8], place: usize) -> u32
     requires { Within rec.now }
-    ensures { result ≡ (answer_code (reading Straight rec.now (8 * length rec.now) place).answer).0 }
+    ensures { result ≡ (answer_code (reading Straight rec.now (8 * length rec.now) place)).0 }
 {
-    let found = reading::read(rec, 8 * rec.len(), Phase::Straight, place);
-    let answer = found.answer;
-    answers::answer_number(answer)
+    answers::answer_number(&reading::read(rec, 8 * rec.len(), Phase::Straight, place))
 }
 
 // The number that the bits `first` to `last` of the string at the place `offset` make, from the bytes that its first 50 bits cover. Bits in
@@ -40,7 +43,11 @@ fn field(part: &[u8], offset: usize, first: usize, last: usize) -> u32
     requires { Covers part.now offset 50 × (0 < first) × (first ≤ last) × (last ≤ 50) × (last < first + 32) }
     ensures { result ≡ number (string_bits (unpack part.now) offset first last) }
 {
-    bits::field(part, Phase::Straight, offset + first - 1, last + 1 - first) as u32
+    let part = Part {
+        bytes: part,
+        phase: Phase::Straight,
+    };
+    part.field(offset + first - 1, last + 1 - first) as u32
 }
 
 // Type, j, KP, A and OMB of the string at the place `offset`, from the bytes that its first 50 bits cover.
@@ -61,57 +68,66 @@ fn line_numbers(rec: &[u8], place: usize) -> [u32; text::ROW]
     requires { Within rec.now × (place + 50 ≤ 8 * length rec.now) }
     ensures { row result ≡ line rec.now place }
 {
-    let first = place / 8;
-    let end = (place + 50 + 7) / 8;
-    let service = service_numbers(&rec[first..end], place % 8);
+    let whole = Part {
+        bytes: rec,
+        phase: Phase::Straight,
+    };
+    let part = whole.covering(place, 50).bytes;
+    let [kind, satellite, correction, next, time] = service_numbers(part, place % 8);
     let result = result_at(rec, place);
     [
         place as u32,
-        service[0],
-        service[1],
-        service[2],
-        service[3],
-        service[4],
+        kind,
+        satellite,
+        correction,
+        next,
+        time,
         result,
     ]
 }
 
-// Puts the line of a start at a place of the buffer, and answers the place after it.
-fn put_line(rec: &[u8], start: usize, out: &mut [u8], at: usize) -> usize
-    requires { Within rec.now × (start + 50 ≤ 8 * length rec.now) × (at + line_most ≤ length out.old) }
-    ensures { Wrote (line rec.now start) at out.old out.new result }
+// Writes the line of a start.
+fn put_line(rec: &[u8], start: usize, text: &mut Text)
+    requires { Within rec.now × (start + 50 ≤ 8 * length rec.now) × HasRoom line_most text.old }
+    ensures { Adds (line rec.now start) text.old text.new }
 {
-    let numbers = line_numbers(rec, start);
-    text::put_row(out, at, numbers)
+    text.row(&line_numbers(rec, start));
 }
 
-// Puts a line for each of the first `n` starts at a place of the buffer, and answers the place after them.
-fn put_lines(rec: &[u8], starts: &[u32], n: usize, out: &mut [u8], at: usize) -> usize
-    requires { Within rec.now × (n ≤ length starts.now) × Inside rec.now starts.now n × (at + line_most * n ≤ length out.old) }
-    ensures { Wrote (lines rec.now (take n starts.now)) at out.old out.new result }
+// Writes a line for each start.
+fn put_lines(rec: &[u8], starts: &[u32], text: &mut Text)
+    requires { Within rec.now × Inside rec.now starts.now (length starts.now) × HasRoom (line_most * length starts.now) text.old }
+    ensures { Adds (lines rec.now starts.now) text.old text.new }
 {
-    let mut place = at;
-    let mut j: usize = 0;
-    while j < n {
-        place = put_line(rec, starts[j] as usize, out, place);
-        j += 1;
+    for start in starts {
+        put_line(rec, *start as usize, text);
     }
-    place
 }
 
-// Puts the header and the lines of a recording that is not too long, and answers the place after them. The list has an entry for each
-// string that such a recording can hold.
-fn put_listing(rec: &[u8], out: &mut [u8]) -> usize
-    requires { Within rec.now × (report_most ≤ length out.old) }
-    ensures { Wrote (listed rec.now) 0 out.old out.new result }
+// Writes the header and the lines of a recording that is not too long. The list has an entry for each string that such a recording can
+// hold.
+fn put_listing(rec: &[u8], text: &mut Text)
+    requires { Within rec.now × HasRoom report_most text.old }
+    ensures { Adds (listed rec.now) text.old text.new }
 {
     let mut found = [0u32; STARTS];
-    let listed = listing::list(rec, 8 * rec.len(), Phase::Straight, &mut found);
-    let Outcome::Given(n) = listed else {
-        return 0;
+    let Ok(n) = listing::list(rec, 8 * rec.len(), Phase::Straight, &mut found) else {
+        return;
     };
-    let at = text::put_bytes(out, 0, b"place,type,number,kp,a,omb,result\n");
-    put_lines(rec, &found, n, out, at)
+    text.bytes(HEADER);
+    put_lines(rec, &found[..n], text);
+}
+
+// Writes the refusal of a recording that is too long, or the listing of another.
+fn put_report(rec: &[u8], text: &mut Text)
+    requires { HasRoom report_most text.old }
+    ensures { Adds (report rec.now) text.old text.new }
+{
+    if rec.len() >= BYTES {
+        text.bytes(b"refused,1\n");
+    } else {
+        put_listing(rec, text);
+    }
 }
 
 // Puts all that `list` prints for these bytes at the front of the buffer, and answers how many bytes that is. It is also what `list` prints
@@ -122,8 +138,7 @@ pub fn report(rec: &[u8], out: &mut [u8]) -> usize
     ensures enough { (input : List ℕ) → rec.now ≡ take bytes_most input
         → Wrote (report input) 0 out.old out.new result }
 {
-    if rec.len() >= BYTES {
-        return text::put_bytes(out, 0, b"refused,1\n");
-    }
-    put_listing(rec, out)
+    let mut text = Text::new(out);
+    put_report(rec, &mut text);
+    text.len
 }

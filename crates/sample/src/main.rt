@@ -22,8 +22,8 @@ fn content(kind: u8, correction: u8, next: u8, time: u64) -> Record {
 
 fn main(rt: HostRuntime) {
     let mut rec = [0u8; 79];
-    writing::write(&mut rec, 632, 0, content(0, 3, 1, 99));
-    writing::write(&mut rec, 632, 250, content(1, 3, 0, 100));
-    writing::write(&mut rec, 632, 375, content(0, 0, 0, 101));
+    let _ = writing::write(&mut rec, 632, 0, content(0, 3, 1, 99));
+    let _ = writing::write(&mut rec, 632, 250, content(1, 3, 0, 100));
+    let _ = writing::write(&mut rec, 632, 375, content(0, 0, 0, 101));
     let _ = rt.write_all(&rec);
 }

@@ -81,6 +81,14 @@ module _ (u : List Bool) where
           here = λ _. here.1;
         }
 
+  -- a word's hits from the place p on, where no place from `from` to there has the mark
+  module _ (from p n g : ℕ) (f : Hits u p n g) (c : MarkFree u from p) where
+    pub free_word : (q : ℕ) → g ≡ 0 → n ≤ 64 → q ≤ p + n → MarkFree u from q
+    free_word q z l k = free_join from p q c (hits_none p n g f q z l k)
+
+    pub next_word : (g ≡ 0 → ⊥) → g < 2 ^ 64 → from ≤ p → NextMark u from (p + count_leading_zeros 64 g)
+    next_word z l k = next-on from p (p + count_leading_zeros 64 g) c k (hits_first p n g f z l)
+
 module _ (φ : Phase) (s : List ℕ) (n : ℕ) (h : n ≤ 8 * length s) where
   abbrev u : List Bool
   u = recorded φ s n
@@ -141,7 +149,7 @@ module _ (φ : Phase) (s : List ℕ) (n : ℕ) (h : n ≤ 8 * length s) where
           ∙ ap (λ (x : ℕ). cut x 12 (true_bits φ s)) k ∙ sym (cut-recorded φ (q + i) 12 n s (omega arith))
           ∙ sym (string_bits_lem u (q + i) 12)
 
-  -- `marks(word_at(rec, p / 8)) << (p % 8)`
+  -- `marks(rec.word(p / 8)) << (p % 8)`
   pub hits_at : (p w g : ℕ) → p + 64 ≤ n → w ≡ number (cut (8 * (p / 8)) 64 (true_bits φ s)) → Hits (bits 64 w) 0 53 g
       → Hits u p (53 - p % 8) (g * 2 ^ (p % 8) % 2 ^ 64)
   hits_at p w g l e f =

@@ -5,7 +5,7 @@ ghost use Rattle.std.specs.Prelude.{◌*◌, ◌^◌, ◌<◌, ◌≤◌, length
 ghost use Rattle.bits.specs.Bits.{bits, recorded};
 ghost use Rattle.search.specs.Search.{NextMark, Hits};
 
-use bits::Phase;
+use bits::Part;
 
 // The places of the mark 0101 1111 0001 in the 64 bits of a word, as ones at these places: `rise`, `ones` and `zeros` have a one where
 // 01, 11 and 00 begin, and `first`, `second` and `third` where the mark's fours do.
@@ -24,42 +24,40 @@ fn marks(word: u64) -> u64
 }
 
 // The first place from `from` on with the mark, or the bit count, place by place.
-fn mark_from(rec: &[u8], count: usize, phase: Phase, from: usize) -> usize
-    requires { (count < 2 ^ 32) × (count ≤ 8 * length rec.now) × (from ≤ count) }
-    ensures { NextMark (recorded phase rec.now count) from result }
+fn mark_from(rec: Part, count: usize, from: usize) -> usize
+    requires { (count < 2 ^ 32) × (count ≤ 8 * length rec.bytes.now) × (from ≤ count) }
+    ensures { NextMark (recorded rec.entry.phase rec.entry.bytes.now count) from result }
 {
-    let mut p = from;
-    while p + 12 <= count {
-        if bits::field(rec, phase, p, 12) == format::MARK {
+    for p in from..count.saturating_sub(11) {
+        if rec.field(p, 12) == format::MARK {
             return p;
         }
-        p += 1;
     }
     count
 }
 
 // The first place from `from` on with the mark, or the bit count: in the word there, then word by word, 48 places of each, as long as the
 // rest has a word, then place by place.
-pub fn next_mark(rec: &[u8], count: usize, phase: Phase, from: usize) -> usize
-    requires { (count < 2 ^ 32) × (count ≤ 8 * length rec.now) × (from ≤ count) }
-    ensures { NextMark (recorded phase rec.now count) from result }
+pub fn next_mark(rec: Part, count: usize, from: usize) -> usize
+    requires { (count < 2 ^ 32) × (count ≤ 8 * length rec.bytes.now) × (from ≤ count) }
+    ensures { NextMark (recorded rec.entry.phase rec.entry.bytes.now count) from result }
 {
     let mut p = from;
     if from + 64 <= count {
-        let hits = marks(bits::word_at(rec, phase, from / 8)) << (from % 8);
+        let first = from / 8;
+        let hits = marks(rec.word(first)) << (from % 8);
         if hits != 0 {
-            return from + u64::leading_zeros(hits) as usize;
+            return from + hits.leading_zeros() as usize;
         }
-        let last = count / 8;
-        let mut i = from / 8 + 6;
-        while i + 8 <= last {
-            let hits = marks(bits::word_at(rec, phase, i));
+        let words = (count / 8 - first - 2) / 6;
+        for k in 1..words {
+            let i = first + 6 * k;
+            let hits = marks(rec.word(i));
             if hits != 0 {
-                return 8 * i + u64::leading_zeros(hits) as usize;
+                return 8 * i + hits.leading_zeros() as usize;
             }
-            i += 6;
         }
-        p = 8 * i;
+        p = 8 * (first + 6 * words);
     }
-    mark_from(rec, count, phase, p)
+    mark_from(rec, count, p)
 }

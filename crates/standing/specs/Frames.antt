@@ -1,25 +1,24 @@
 -- What is at a place, up to the check. Assumes nothing.
-use Rattle.std.specs.Prelude.{Bool, cond, not, List, ℕ, ◌+◌, length, drop}
-use Rattle.format.specs.declared.Answer.{Answer}
-use Rattle.format.specs.declared.Answer.TheVariants.{Refused}
-use Rattle.format.specs.declared.Refusal.TheVariants.{NoMark, RunsOut, CheckFails}
+use Rattle.std.specs.Prelude.{Bool, not, List, ℕ, zero, suc, ◌+◌, length, drop, Option, Some, None, Result}
+use Rattle.format.specs.declared.Refusal.{Refusal}
+use Rattle.format.specs.declared.Refusal.TheVariants.{NoMark, RunsOut}
 use Rattle.format.specs.Standing.{begins}
 use Rattle.format.specs.Strings.{mark, type_at, length_of}
-use Rattle.format.specs.Tests.{when, above}
+use Rattle.format.specs.Tests.{Answer, when, ◌then◌, giving, above}
 use Rattle.standing.specs.declared.Frame.{Frame}
-use Rattle.standing.specs.declared.Frame.TheVariants.{Short, Unmarked, Beyond, Framed}
 
--- The first of the tests 5 (18 bits), 4, 5 that refuses the string at a place; or its type and its length.
-unfoldable pub frame_at : List Bool → ℕ → Frame
-frame_at bits place =
-    cond (above (place + 18) (length bits)) Short
-    (cond (not (begins mark (drop place bits))) Unmarked
-    (cond (above (place + length_of (type_at bits place)) (length bits)) Beyond
-    (Framed (type_at bits place) (length_of (type_at bits place)))))
+-- The tests 5 (18 bits), 4, 5 of the string at a place: those of its frame.
+unfoldable pub frame_tests : List Bool → ℕ → Answer
+frame_tests bits place =
+    when (above (place + 18) (length bits)) (RunsOut place)
+    then when (not (begins mark (drop place bits))) (NoMark place)
+    then when (above (place + length_of (type_at bits place)) (length bits)) (RunsOut place)
 
--- What the tests of a string answer, of its frame, its place and whether its check passes.
-abbrev pub frame_tests : Frame → ℕ → Bool → Answer
-frame_tests Short place passes = Refused (RunsOut place)
-frame_tests Unmarked place passes = Refused (NoMark place)
-frame_tests Beyond place passes = Refused (RunsOut place)
-frame_tests (Framed type long) place passes = when (not passes) (CheckFails place)
+-- Its type and its length, where they pass.
+unfoldable pub frame_at : List Bool → ℕ → Result Frame Refusal
+frame_at bits place = giving (frame_tests bits place) (record { kind = type_at bits place; long = length_of (type_at bits place) })
+
+-- The length of what stands, or nothing where it is 0.
+abbrev pub as_length : ℕ → Option ℕ
+as_length zero = None
+as_length (suc n) = Some (suc n)

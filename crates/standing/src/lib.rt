@@ -2,79 +2,48 @@
 #![tactic(auto)]
 
 ghost use Rattle.std.specs.Prelude.{◌≡◌, ◌≤◌};
-ghost use Rattle.bits.specs.Bits.{number, true_bits, recorded, cut, Covers};
+ghost use Rattle.recording.specs.Recorded.{bits_of};
 ghost use Rattle.format.specs.Standing.{standing};
-ghost use Rattle.format.specs.Tests.{Passes};
-ghost use Rattle.types.specs.Generators.{Tables};
-ghost use Rattle.standing.specs.Frames.{frame_at};
+ghost use Rattle.standing.specs.Frames.{frame_at, as_length};
 
-use bits::Phase;
+use format::Refusal;
+use recording::Recording;
 
-// What is at a place, up to the check: fewer than 18 bits, no mark, a string that runs past the bit count; or the type and the length of
-// a string that stands there if its check passes.
+// The type and the length of a string that stands at a place if its check passes.
 #[derive(Clone, Copy)]
-pub enum Frame {
-    Short,
-    Unmarked,
-    Beyond,
-    Framed(u8, usize),
+pub struct Frame {
+    pub kind: u8,
+    pub long: usize,
 }
 
-// The mark and the type of the string at the place `offset` of the bytes that they cover, as a number.
-fn head_at(part: &[u8], phase: Phase, offset: usize) -> u64
-    requires { Covers part.now offset 18 }
-    ensures { result ≡ number (cut offset 18 (true_bits phase part.now)) }
+// The frame at a place, or why there is none: fewer than 18 bits, no mark, a string that runs past the bit count.
+pub fn frame_at(rec: Recording, place: usize) -> Result<Frame, Refusal>
+    requires { place ≤ rec.count }
+    ensures { result ≡ frame_at (bits_of rec.entry) place }
 {
-    bits::field(part, phase, offset, 18)
-}
-
-// The frame at a place.
-pub fn frame_at(rec: &[u8], count: usize, phase: Phase, place: usize) -> Frame
-    requires { Passes rec.now count × (place ≤ count) }
-    ensures { result ≡ frame_at (recorded phase rec.now count) place }
-{
-    if count - place < 18 {
-        return Frame::Short;
+    if rec.count - place < 18 {
+        return Err(Refusal::RunsOut(place));
     }
-    let first = place / 8;
-    let end = (place + 18 + 7) / 8;
-    let head = head_at(&rec[first..end], phase, place % 8);
+    let head = rec.part.covering(place, 18).field(place % 8, 18);
     if head / 64 != format::MARK {
-        return Frame::Unmarked;
+        return Err(Refusal::NoMark(place));
     }
     let kind = (head % 64) as u8;
     let long = types::length_of(kind);
-    if count - place < long {
-        return Frame::Beyond;
+    if rec.count - place < long {
+        return Err(Refusal::RunsOut(place));
     }
-    Frame::Framed(kind, long)
+    Ok(Frame { kind, long })
 }
 
-// The length of the string that stands at a place, or 0. The check is taken from only the bytes that the string covers.
-pub fn standing(
-    rec: &[u8],
-    count: usize,
-    phase: Phase,
-    place: usize,
-    t16: &[u32],
-    t24: &[u32],
-) -> usize
-    requires { Passes rec.now count × (place ≤ count) × Tables t16.now t24.now }
-    ensures { result ≡ standing (recorded phase rec.now count) place }
+// The length of the string that stands at a place. The check is taken from only the bytes that the string covers.
+pub fn standing(rec: Recording, place: usize) -> Option<usize>
+    requires { place ≤ rec.count }
+    ensures { result ≡ as_length (standing (bits_of rec.entry) place) }
 {
-    let frame = frame_at(rec, count, phase, place);
-    match frame {
-        Frame::Short => 0,
-        Frame::Unmarked => 0,
-        Frame::Beyond => 0,
-        Frame::Framed(kind, long) => {
-            let first = place / 8;
-            let end = (place + long + 7) / 8;
-            if types::divides(&rec[first..end], phase, place % 8, long, kind, t16, t24) {
-                long
-            } else {
-                0
-            }
-        }
-    }
+    let Ok(Frame { kind, long }) = frame_at(rec, place) else {
+        return None;
+    };
+    let part = rec.part.covering(place, long);
+    types::divides(part, place % 8, long, kind).then_some(long)
 }

@@ -1,7 +1,7 @@
 -- How long numerals and rows are, and the digits of a number from the last one on. Assumes nothing.
 use mathlib.Core.Bool.{Bool, true, false, cond}
 use mathlib.Core.List.{List, [], ◌∷◌, ◌++◌, append_assoc}
-use mathlib.Core.Path.{◌≡◌, sym, ap, ◌∙◌}
+use mathlib.Core.Path.{◌≡◌, refl, sym, ap, ◌∙◌}
 use Prim.Native.Nat.{ℕ, zero, suc, ◌*◌, ◌/◌, ◌%◌, ◌^◌, ◌≤◌, ◌<◌}
 use native.Mathlib.Decide.{dec_lt}
 use native.Mathlib.Nat.{pow-suc}
@@ -9,7 +9,9 @@ use native.Mathlib.Omega.{arith}
 use lib.Dec.{ltb}
 use lib.ListN.{length, length-append}
 use borrow.Author.Tests.{lt-ltb, le-ltb}
-use Rattle.text.specs.Text.{digit, digits, digits_most, numeral, end_of, row, number_most, row_numbers, line_most}
+use Rattle.std.proofs.lemmas.Fmt.{decimal_digit, decimal_step}
+use Rattle.std.specs.Fmt.{decimal}
+use Rattle.text.specs.Text.{digit, digits, digits_most, numeral, newline, end_of, row, number_most, row_numbers, line_most}
 
 -- ---- digits
 module _ (most n : ℕ) where
@@ -44,6 +46,22 @@ pub numeral_whole : (most n : ℕ) → digits_most ≤ most → n < 10 ^ digits_
 unfolding numeral
 numeral_whole most n l h = digits_same digits_most most n l (omega arith) h
 
+-- ---- std's decimal text of a number is its numeral
+decimal_digits : (most n : ℕ) → 0 < most → n < 10 ^ most → n < 2 ^ 64 → decimal n ≡ digits most n
+decimal_digits zero n z g f = absurd (omega arith)
+decimal_digits (suc most) n z g f =
+    by (dec_lt n 10) (λ h. let r = rest-fits most n h g in decimal_digits most (n / 10) r.0 r.1 (omega arith))
+  where
+    by : Dec (n < 10) → (10 ≤ n → decimal (n / 10) ≡ digits most (n / 10)) → decimal n ≡ digits (suc most) n
+    by (yes h) e = decimal_digit n h ∙ sym (digits_one most n h)
+    by (no h) e =
+        let k : 10 ≤ n = omega arith in
+        decimal_step n k f ∙ ap (λ (ds : List ℕ). ds ++ (digit (n % 10) ∷ [])) (e k) ∙ sym (digits_more most n k)
+
+pub decimal-numeral : (n : ℕ) {x : ℕ} → x ≡ n → n < 10 ^ digits_most → decimal x ≡ numeral n
+unfolding numeral
+decimal-numeral n e h = ap decimal e ∙ decimal_digits digits_most n (omega arith) h (omega arith)
+
 -- ---- lengths
 digits-length : (most n : ℕ) → (length (digits most n) ≤ most) × (0 < most → 0 < length (digits most n))
 unfolding digits
@@ -66,6 +84,15 @@ numeral-length n = ((digits-length digits_most n).1 (omega arith), (digits-lengt
 pub row_cons : (n : ℕ) (ns : List ℕ) → row (n ∷ ns) ≡ (numeral n ++ (end_of ns ∷ [])) ++ row ns
 unfolding row
 row_cons n ns = simp append_assoc
+
+pub row_one : (n : ℕ) → row (n ∷ []) ≡ numeral n ++ (newline ∷ [])
+unfolding row
+row_one n = refl
+
+pub row_empty : (ns : List ℕ) → length ns ≡ 0 → row ns ≡ []
+unfolding row
+row_empty [] e = refl
+row_empty (n ∷ ns) e = absurd (omega arith)
 
 pub row-length : (ns : List ℕ) → (length ns ≤ length (row ns)) × (length (row ns) ≤ number_most * length ns)
 unfolding row

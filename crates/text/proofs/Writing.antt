@@ -1,20 +1,19 @@
--- Texts written one after another, and what the loops of the crate have written. Assumes nothing.
-use mathlib.Core.Bool.{cond}
-use mathlib.Core.List.{List, [], ◌∷◌, ◌++◌, append_assoc, append-nil}
-use mathlib.Core.Path.{◌≡◌, refl, sym, ap, ◌∙◌, subst}
-use Prim.Native.Nat.{ℕ, suc, ◌+◌, ◌-◌, ◌*◌, ◌/◌, ◌%◌, ◌^◌, ◌≤◌, ◌<◌}
-use native.Mathlib.Decide.{dec_lt}
+-- Texts written one after another, and what the loop of `row` has written. Assumes nothing.
+use mathlib.Core.List.{List, [], ◌∷◌, ◌++◌, append_assoc}
+use mathlib.Core.Path.{◌≡◌, refl, sym, ap, ◌∙◌}
+use Prim.Native.Nat.{ℕ, suc, ◌+◌, ◌-◌, ◌*◌, ◌≤◌, ◌<◌}
 use native.Mathlib.Numerals.{add-one}
-use native.Mathlib.Nat.{add-zero}
 use native.Mathlib.Omega.{arith}
-use lib.Dec.{ltb}
-use lib.ListN.{length, length-append, length-set, length-drop, take, drop, set, get_or, replicate, drop_of_length-le}
-use lib.Seq.{take_all, take-suc, drop-cons, drop-set-lt, get_or-set_same, set_split}
-use borrow.Author.Tests.{lt-ltb, le-ltb}
+use lib.ListN.{length, length-append, take, drop, get_or, drop_of_length-le}
+use lib.Seq.{take_all, drop-cons, drop-drop}
+use Rattle.std.specs.List.{IsLastAndRest}
+use borrow.Rule.Slice.PartMut.{put_mid}
 use Rattle.bits.specs.Bits.{put}
 use Rattle.bits.proofs.Lists.{put_none, put_join, length-put}
-use Rattle.text.specs.Text.{digit, comma, newline, digits, digits_most, numeral, end_of, row, number_most, row_numbers, line_most, Wrote}
-use Rattle.text.proofs.Numerals.{digits_one, digits_more, rest-fits, numeral-length, row_cons}
+use Rattle.text.specs.declared.Text.{Text}
+use Rattle.text.specs.Text.{digits_most, comma, newline, numeral, end_of, row, number_most, Wrote}
+use Rattle.text.specs.Writing.{HasRoom, Adds}
+use Rattle.text.proofs.Numerals.{numeral-length, row_cons, row_one}
 
 -- ---- texts one after another
 pub wrote_none : (at : ℕ) (before : List ℕ) → Wrote [] at before before at
@@ -32,124 +31,80 @@ wrote_join {s} {t} {before} {mid} {after} {at} {place} v w h =
       placed = omega (arith, length-append s t, v.placed, w.placed);
     }
 
--- A store writes one byte.
-wrote_byte : (before : List ℕ) (at x : ℕ) → at < length before → Wrote (x ∷ []) at before (set before at x) (at + 1)
+-- What is copied into the part of the buffer that it fills is put there.
+pub wrote_part : (text before part : List ℕ) (at : ℕ) → part ≡ text
+    → Wrote text at before (put_mid at (at + length text - at) before part) (at + length text)
 unfolding put
-wrote_byte before at x h =
-    record {
-      written = set_split before at x h ∙ ap (λ (k : ℕ). take at before ++ x ∷ drop k before) (sym (add-one at));
-      placed = refl;
-    }
+wrote_part text before part at e =
+    let k : at + length text - at ≡ length text = omega arith in
+    record { written = rw (e, k, drop-drop (length text) at before) refl; placed = refl }
 
--- ---- lent bytes: the first i of them
-pub bytes_none : (bytes before : List ℕ) (at : ℕ) → Wrote (take 0 bytes) at before before (at + 0)
-bytes_none bytes before at = rw (add-zero at) (wrote_none at before)
+-- ---- the same of a text in its memory
+module _ {s : List ℕ} {a b : Text} (v : Adds s a b) where
+  pub adds_room : (n : ℕ) → HasRoom (length s + n) a → HasRoom n b
+  adds_room n h = omega (arith, v.wrote.placed, wrote_length v.wrote (omega (arith, v.wrote.placed)))
 
-module _ (bytes before : List ℕ) (at i : ℕ) (out : List ℕ) where
-  pub bytes_more : Wrote (take i bytes) at before out (at + i) → i < length bytes → at + length bytes ≤ length before
-      → Wrote (take (i + 1) bytes) at before (set out (at + i) (get_or bytes i 0)) (at + (i + 1))
-  bytes_more w h g =
-      let same : length out ≡ length before = wrote_length w (omega arith) in
-      let next : at + i + 1 ≡ at + (i + 1) = omega arith in
-      rw (add-one i, take-suc bytes i 0 h, ← add-one i, ← next)
-      (wrote_join w (wrote_byte out (at + i) (get_or bytes i 0) (omega arith)) (omega arith))
+  pub adds_join : {t : List ℕ} {c : Text} → Adds t b c → HasRoom (length s + length t) a → Adds (s ++ t) a c
+  adds_join w h =
+      record {
+        wrote = wrote_join v.wrote w.wrote (omega (arith, v.wrote.placed, w.wrote.placed));
+        same_memory = w.same_memory ∙ v.same_memory;
+      }
 
-  pub bytes_all : Wrote (take i bytes) at before out (at + i) → length bytes ≤ i → Wrote bytes at before out (at + i)
-  bytes_all w h = rw (take_all i bytes h) at w
+pub adds_none : (a : Text) → Adds [] a a
+adds_none a = record { wrote = wrote_none a.len a.out.now; same_memory = refl }
 
--- ---- a numeral and the byte after it, put into an array from its end
--- The places from i on are filled, and the digits of `rest` are yet to be.
-pub record Filled (n end : ℕ) (text : List ℕ) (i rest : ℕ) : Type 0 where
-  pub places : length text ≡ number_most
-  pub some : 0 < i
-  pub within : i ≤ digits_most
-  pub fits : rest < 10 ^ i
-  pub whole : digits i rest ++ drop i text ≡ numeral n ++ (end ∷ [])
+-- ---- a numeral and the byte after it, in an array from `start` on
+pub number_part : (n end start : ℕ) (array : List ℕ) {digits : List ℕ} → digits ≡ numeral n → start + length digits ≡ digits_most
+    → drop start array ≡ digits ++ (end ∷ []) → take (number_most - start) (drop start array) ≡ numeral n ++ (end ∷ [])
+number_part n end start array {digits} d s w =
+    let whole : drop start array ≡ numeral n ++ (end ∷ []) = w ∙ ap (λ (k : List ℕ). k ++ (end ∷ [])) d in
+    rw whole (take_all (number_most - start) (numeral n ++ (end ∷ []))
+    (omega (arith, s, ap length d, length-append (numeral n) (end ∷ []))))
 
-drop-set : (l : List ℕ) (i x : ℕ) → i < length l → drop i (set l i x) ≡ x ∷ drop (suc i) l
-drop-set l i x h =
-    let g : i < length (set l i x) = simp length-set h in
-    rw (drop-cons (set l i x) i 0, get_or-set_same l i x 0, drop-set-lt (suc i) l i x (omega arith))
+number-length : (n end : ℕ) → length (numeral n ++ (end ∷ [])) ≤ number_most
+number-length n end = omega (arith, length-append (numeral n) (end ∷ []), numeral-length n)
 
-module _ (n end : ℕ) where
-  pub filled-end : n < 2 ^ 32 → Filled n end (set (replicate number_most 0) digits_most end) digits_most n
-  unfolding numeral
-  filled-end h = record { places = refl; some = omega arith; within = omega arith; fits = omega arith; whole = refl }
-
-  module _ (text : List ℕ) (i rest x : ℕ) (f : Filled n end text i rest) where
-    filled : (j : ℕ) → i ≡ suc j → drop j (set text j x) ≡ x ∷ drop (suc j) text
-    filled j e = drop-set text j x (omega (arith, f.within, f.places))
-
-    pub filled_more : (j : ℕ) → i ≡ suc j → 10 ≤ rest → x ≡ digit (rest % 10) → Filled n end (set text j x) j (rest / 10)
-    filled_more j e h d =
-        let r = rest-fits j rest h (rw e at f.fits) in
-        record {
-          places = simp length-set f.places;
-          some = r.0;
-          within = omega (arith, f.within);
-          fits = r.1;
-          whole =
-              ap (λ (k : List ℕ). digits j (rest / 10) ++ k) (filled j e ∙ ap (λ (y : ℕ). y ∷ drop (suc j) text) d)
-              ∙ sym (append_assoc (digits j (rest / 10)) (digit (rest % 10) ∷ []) (drop (suc j) text))
-              ∙ ap (λ (k : List ℕ). k ++ drop (suc j) text) (sym (digits_more j rest h))
-              ∙ rw e at f.whole;
-        }
-
-    -- With the first digit, what is filled is the text.
-    pub filled_all : (j : ℕ) → i ≡ suc j → rest < 10 → x ≡ digit rest
-        → take (number_most - j) (drop j (set text j x)) ≡ numeral n ++ (end ∷ [])
-    filled_all j e h d =
-        let long : length (drop j (set text j x)) ≡ number_most - j = simp (length-drop, length-set) (omega (arith, f.places)) in
-        take_all (number_most - j) (drop j (set text j x)) (omega arith)
-        ∙ filled j e ∙ ap (λ (y : ℕ). y ∷ drop (suc j) text) d
-        ∙ ap (λ (k : List ℕ). k ++ drop (suc j) text) (sym (digits_one j rest h))
-        ∙ rw e at f.whole
-
--- ---- a row: what is written once its first i numbers are
-pub record RowSoFar (numbers before : List ℕ) (at i : ℕ) (out : List ℕ) (place : ℕ) : Type 0 where
+-- ---- a row: what is written once the first i numbers before the last one are
+pub record RowSoFar (others : List ℕ) (last i : ℕ) (before now : Text) : Type 0 where
   pub text : List ℕ
-  pub whole : row numbers ≡ text ++ row (drop i numbers)
-  pub wrote : Wrote text at before out place
-  pub few : place ≤ at + number_most * i
+  pub whole : row (others ++ (last ∷ [])) ≡ text ++ row (drop i others ++ (last ∷ []))
+  pub adds : Adds text before now
+  pub few : length text ≤ number_most * i
 
-module _ (numbers before : List ℕ) (at : ℕ) where
-  pub row_none : RowSoFar numbers before at 0 before at
-  row_none = record { text = []; whole = refl; wrote = wrote_none at before; few = omega arith }
+end_is : (ns : List ℕ) (last : ℕ) → end_of (ns ++ (last ∷ [])) ≡ comma
+end_is [] last = refl
+end_is (n ∷ ns) last = refl
 
-  -- The byte after a number, by its index.
-  end_is : (i : ℕ) → length numbers ≡ row_numbers → i < row_numbers
-      → cond (ltb i (row_numbers - 1)) comma newline ≡ end_of (drop (suc i) numbers)
-  end_is i l h = by (dec_lt i (row_numbers - 1))
-    where
-      by : Dec (i < row_numbers - 1) → cond (ltb i (row_numbers - 1)) comma newline ≡ end_of (drop (suc i) numbers)
-      by (yes g) =
-          let k : suc i < length numbers = omega arith in
-          simp (lt-ltb i (row_numbers - 1) g, drop-cons numbers (suc i) 0)
-      by (no g) =
-          let k : length numbers ≤ suc i = omega arith in
-          simp (le-ltb i (row_numbers - 1) (omega arith), drop_of_length-le numbers k)
+pub row_none : (others : List ℕ) (last : ℕ) (before : Text) → RowSoFar others last 0 before before
+row_none others last before = record { text = []; whole = refl; adds = adds_none before; few = omega arith }
 
-  module _ {i place : ℕ} {out : List ℕ} (b : RowSoFar numbers before at i out place) where
-    pub row_more : {end next : ℕ} {after : List ℕ} → length numbers ≡ row_numbers → i < row_numbers
-        → end ≡ cond (ltb i (row_numbers - 1)) comma newline → Wrote (numeral (get_or numbers i 0) ++ (end ∷ [])) place out after next
-        → at + line_most ≤ length before → RowSoFar numbers before at (i + 1) after next
-    row_more {end} l h e w g =
-        let n = get_or numbers i 0 in
-        let piece = numeral n ++ (end ∷ []) in
-        let small : length piece ≤ number_most = omega (arith, length-append (numeral n) (end ∷ []), numeral-length n) in
-        let more : row (drop i numbers) ≡ piece ++ row (drop (i + 1) numbers) =
-        ap row (drop-cons numbers i 0 (omega arith)) ∙ row_cons n (drop (suc i) numbers)
-        ∙ rw (add-one i, e, end_is i l h) in
-        record {
-          text = b.text ++ piece;
-          whole = b.whole ∙ ap (λ (k : List ℕ). b.text ++ k) more ∙ sym (append_assoc b.text piece (row (drop (i + 1) numbers)));
-          wrote = wrote_join b.wrote w (omega (arith, b.few, w.placed));
-          few = omega (arith, b.few, w.placed);
-        }
+module _ {numbers others : List ℕ} {last : ℕ} {before : Text} (e : IsLastAndRest numbers last others)
+    (h : HasRoom (number_most * length numbers) before) {i : ℕ} {now : Text} (b : RowSoFar others last i before now) where
+  pub row_room : i ≤ length others → HasRoom number_most now
+  row_room g = adds_room b.adds number_most (omega (arith, b.few, e.1))
 
-    pub row_all : length numbers ≤ i → Wrote (row numbers) at before out place
-    unfolding row
-    row_all h =
-        let e : row numbers ≡ b.text =
-        b.whole ∙ ap (λ (k : List ℕ). b.text ++ row k) (drop_of_length-le numbers h) ∙ append-nil b.text in
-        subst (λ (k : List ℕ). Wrote k at before out place) (sym e) b.wrote
+  pub row_more : {after : Text} → i < length others → Adds (numeral (get_or others i 0) ++ (comma ∷ [])) now after
+      → RowSoFar others last (i + 1) before after
+  row_more g w =
+      let n = get_or others i 0 in
+      let piece = numeral n ++ (comma ∷ []) in
+      let rest = drop (suc i) others ++ (last ∷ []) in
+      let more : row (drop i others ++ (last ∷ [])) ≡ piece ++ row rest =
+      ap (λ (ns : List ℕ). row (ns ++ (last ∷ []))) (drop-cons others i 0 g) ∙ row_cons n rest
+      ∙ ap (λ (end : ℕ). (numeral n ++ (end ∷ [])) ++ row rest) (end_is (drop (suc i) others) last) in
+      record {
+        text = b.text ++ piece;
+        whole = rw (add-one i) (b.whole ∙ ap (λ (k : List ℕ). b.text ++ k) more ∙ sym (append_assoc b.text piece (row rest)));
+        adds = adds_join b.adds w (omega (arith, b.few, number-length n comma, e.1));
+        few = omega (arith, b.few, number-length n comma, length-append b.text piece);
+      }
+
+  pub row_all : {after : Text} → length others ≤ i → i ≤ length others → Adds (numeral last ++ (newline ∷ [])) now after
+      → Adds (row numbers) before after
+  row_all {after} g l w =
+      let piece = numeral last ++ (newline ∷ []) in
+      let whole : row numbers ≡ b.text ++ piece =
+      ap row e.0 ∙ b.whole ∙ ap (λ (k : List ℕ). b.text ++ k)
+      (ap (λ (k : List ℕ). row (k ++ (last ∷ []))) (drop_of_length-le others g) ∙ row_one last) in
+      rw whole (adds_join b.adds w (omega (arith, b.few, number-length last newline, e.1)))

@@ -1,5 +1,5 @@
 -- A type's length, generator and check bits by its cases: type 1, type 2, and every other; and where a string of it lies. Assumes nothing.
-use mathlib.Core.Path.{◌≡◌, sym, ap, ◌∙◌, subst}
+use mathlib.Core.Path.{◌≡◌, sym, ap, ap₂, ◌∙◌, subst}
 use mathlib.Core.Bool.{Bool, true, cond}
 use mathlib.Core.List.{List}
 use mathlib.Core.Logic.{◌↔◌}
@@ -20,19 +20,6 @@ use Rattle.format.proofs.Agree.{length_unit}
 use Rattle.format.proofs.Information.{string-filled}
 
 -- ---- lengths
-module _ (t : ℕ) where
-  pub length_one : t ≡ 1 → length_of t ≡ 125
-  unfolding length_of
-  length_one e = simp (eq-eqb t 1 e)
-
-  pub length_two : (t ≡ 1 → ⊥) → t ≡ 2 → length_of t ≡ 375
-  unfolding length_of
-  length_two n e = simp (ne_eqb t 1 n, eq-eqb t 2 e)
-
-  pub length_other : (t ≡ 1 → ⊥) → (t ≡ 2 → ⊥) → length_of t ≡ 250
-  unfolding length_of
-  length_other n m = simp (ne_eqb t 1 n, ne_eqb t 2 m)
-
 pub length-least : (t l : ℕ) → l ≡ length_of t → (125 ≤ l) × (l ≤ 375)
 length-least t l e = let u = length_unit t in (omega arith, omega arith)
 
@@ -45,12 +32,12 @@ generator_other : (t : ℕ) → (t ≡ 2 → ⊥) → generator16 ≡ generator_
 unfolding generator_of
 generator_other t n = sym (ap (λ (b : Bool). cond b generator24 generator16) (ne_eqb t 2 n))
 
--- the numbers that the code has for the generators are those of the types
-pub number_two : (t : ℕ) → t ≡ 2 → bits 25 0x1864CFB ≡ generator_of t
-number_two t e = number24 ∙ generator_two t e
+-- the degrees and numbers that the code has for the generators are those of the types
+pub number_two : (t : ℕ) {d g : ℕ} → t ≡ 2 → d ≡ 24 → g ≡ 0x1864CFB → bits (d + 1) g ≡ generator_of t
+number_two t e h k = ap₂ (λ (d g : ℕ). bits (d + 1) g) h k ∙ number24 ∙ generator_two t e
 
-pub number_other : (t : ℕ) → (t ≡ 2 → ⊥) → bits 17 0x16F63 ≡ generator_of t
-number_other t n = number16 ∙ generator_other t n
+pub number_other : (t : ℕ) {d g : ℕ} → (t ≡ 2 → ⊥) → d ≡ 16 → g ≡ 0x16F63 → bits (d + 1) g ≡ generator_of t
+number_other t n h k = ap₂ (λ (d g : ℕ). bits (d + 1) g) h k ∙ number16 ∙ generator_other t n
 
 -- ---- check bits
 pub check_two : (t : ℕ) → t ≡ 2 → 24 ≡ check_bits t

@@ -1,16 +1,18 @@
--- Facts of every type's fields, computed; and what the widths and a row of the code's tables say at a place. Assumes nothing.
-use mathlib.Core.Path.{◌≡◌, refl}
-use mathlib.Core.Bool.{Bool, true, false, beq, false≢true}
-use mathlib.Core.List.{List, map}
-use Prim.Native.Nat.{ℕ}
-use lib.Dec.{eqb}
-use lib.IntN.{pos}
-use lib.ListN.{get_or, get_or-map}
-use Rattle.format.specs.Fields.{Field, absent, width, is_signed, is_absent, least, most, power}
-use Rattle.format.specs.Types.{places_of}
-use Rattle.format.proofs.Information.{every, every_at, every_place}
-use Rattle.types.specs.declared.rows.Row.{Row}
-use Rattle.types.specs.Rows.{Describes}
+-- Facts of every type's fields, computed; and what the code's table says at a place. Assumes nothing.
+use mathlib.Core.Path.{◌≡◌, refl, sym, ap, ◌∙◌}
+use mathlib.Core.Bool.{Bool, true, false, not, beq, false≢true}
+use mathlib.Core.List.{List, [], ◌∷◌, ◌++◌}
+use Prim.Native.Nat.{ℕ, zero, suc, ◌-◌, ◌<◌, ◌≤◌}
+use native.Mathlib.Omega.{arith}
+use borrow.Author.Tests.{leb-true, not-true}
+use lib.Dec.{eqb, leb}
+use lib.ListN.{length, length-map, drop, replicate, get_or, get_or-append, get_or-map}
+use lib.Seq.{drop-append_seam}
+use Rattle.format.specs.Fields.{Field, absent, width, is_absent, total}
+use Rattle.format.specs.Types.{typed, find, places, places_of}
+use Rattle.format.proofs.Information.{every, every_head, every_place, every_type}
+use Rattle.types.specs.declared.rows.Place.{Place}
+use Rattle.types.specs.Rows.{place_of, no_place, Describes}
 
 -- ---- every type
 
@@ -30,22 +32,57 @@ width_tells f = at (eqb (width f) 0) (is_absent f)
     at false true e = absurd (false≢true e)
     at false false e = refl
 
-pub unused-at : (t i : ℕ) → eqb (width (get_or (places_of t) i absent)) 0 ≡ is_absent (get_or (places_of t) i absent)
-unused-at t i = width_tells (get_or (places_of t) i absent) (every_at wide (places_of t) i refl (all_wide t))
+-- ---- a table at a place
+every_within : (test : Field → Bool) (fs : List Field) (i : ℕ) → every test fs ≡ true → i < length fs → test (get_or fs i absent) ≡ true
+every_within test [] i e h = absurd (omega arith)
+every_within test (f ∷ fs) zero e h = (every_head test f fs e).0
+every_within test (f ∷ fs) (suc i) e h = every_within test fs i (every_head test f fs e).1 (omega arith)
 
--- ---- the widths and a row at a place
-pub width-at : (fs : List Field) {ws : List ℕ} → ws ≡ map width fs → (i : ℕ) → get_or ws i 0 ≡ width (get_or fs i absent)
-width-at fs e i = rw (e, get_or-map width fs i absent)
+pub total_absent : (n : ℕ) → total (replicate n absent) ≡ 0
+total_absent zero = refl
+total_absent (suc n) = omega (arith, total_absent n)
 
-module _ {fs : List Field} {row : Row} (d : Describes fs row) (i : ℕ) where
-  pub sign_at : get_or row.signed i false ≡ is_signed (get_or fs i absent)
-  sign_at = rw (d.same, get_or-map is_signed fs i absent)
+get_or-padded : (ps : List Place) (n i : ℕ) → get_or (ps ++ replicate n no_place) i no_place ≡ get_or ps i no_place
+get_or-padded [] zero i = refl
+get_or-padded [] (suc n) zero = refl
+get_or-padded [] (suc n) (suc i) = get_or-padded [] n i
+get_or-padded (p ∷ ps) n zero = refl
+get_or-padded (p ∷ ps) n (suc i) = get_or-padded ps n i
 
-  pub least_at : get_or row.least i (pos 0) ≡ least (get_or fs i absent)
-  least_at = rw (d.same, get_or-map least fs i absent)
+module _ {kind : ℕ} {table : List Place} (d : Describes kind table) where
+  -- past the end of the table a place is unused, and its field absent
+  pub place_at : (i : ℕ) → get_or table i no_place ≡ place_of (get_or (places_of kind) i absent)
+  place_at i =
+      sym (get_or-padded table (places - length table) i) ∙ ap (λ (ps : List Place). get_or ps i no_place) d.whole
+      ∙ get_or-map place_of (places_of kind) i absent
 
-  pub most-at : get_or row.most i (pos 0) ≡ most (get_or fs i absent)
-  most-at = rw (d.same, get_or-map most fs i absent)
+  pub length_used : length table ≡ length (find kind typed)
+  length_used = ap length d.used ∙ length-map (find kind typed) place_of
 
-  pub power_at : get_or row.powers i 0 ≡ power (get_or fs i absent)
-  power_at = rw (d.same, get_or-map power fs i absent)
+  pub few_used : length table ≤ places
+  few_used =
+      let few = every_type (λ t fs. leb (length fs) places) refl (λ t. refl) kind in
+      omega (arith, length_used, leb-true (length (find kind typed)) places few)
+
+  -- a place of the table is used
+  pub used_at : (i : ℕ) → i < length table → is_absent (get_or (places_of kind) i absent) ≡ false
+  unfolding places_of
+  used_at i h =
+      let fs = find kind typed in
+      let k : i < length fs = omega (arith, length_used) in
+      let used = every_type (λ t fs. every (λ f. not (is_absent f)) fs) refl (λ t. refl) kind in
+      ap is_absent (get_or-append fs (replicate (places - length fs) absent) absent i k)
+      ∙ not-true _ (every_within (λ f. not (is_absent f)) fs i used k)
+
+  -- the places from the end of the table on
+  pub drop_used : drop (length table) (places_of kind) ≡ replicate (places - length table) absent
+  unfolding places_of
+  drop_used =
+      let fs = find kind typed in
+      let k : length table ≡ length fs = length_used in
+      ap (λ (n : ℕ). drop n (fs ++ replicate (places - length fs) absent)) k
+      ∙ drop-append_seam fs (replicate (places - length fs) absent)
+      ∙ ap (λ (n : ℕ). replicate (places - n) absent) (sym k)
+
+  pub none_past : total (drop (length table) (places_of kind)) ≡ 0
+  none_past = ap total drop_used ∙ total_absent (places - length table)

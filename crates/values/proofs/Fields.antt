@@ -1,7 +1,8 @@
 -- The fields of a type by their numbers, and the sizes of their counts. Assumes nothing.
+use Rattle.std.specs.Prelude.{Ok}
 use mathlib.Core.Path.{◌≡◌, refl, sym, ap, ◌∙◌}
 use mathlib.Core.Bool.{Bool, true, false≢true, ◌&&◌, and-eq-true_iff}
-use mathlib.Core.List.{◌∷◌}
+use mathlib.Core.List.{List, ◌∷◌}
 use Prim.Native.Nat.{ℕ, ◌+◌, ◌-◌, ◌^◌, ◌≤◌, ◌<◌}
 use native.Mathlib.Nat.{lt_of_lt_of_le, lt_of_le_of_lt, lt_of_not-le}
 use native.Mathlib.Decide.{dec_le, dec_lt}
@@ -17,12 +18,14 @@ use Rattle.format.proofs.FieldLaws.{range_most, range_size, ranges-at}
 use Rattle.format.proofs.Information.{every_at, every_place, length_information}
 use Rattle.format.proofs.Order.{then_pass}
 use Rattle.format.proofs.Writing.{ranged}
-use Rattle.format.specs.declared.Answer.TheVariants.{Passed}
 use Rattle.format.specs.declared.Record.{Record}
 use Rattle.format.specs.Fields.{Field, unsigned, signed, absent, power, in_range}
 use Rattle.format.specs.Records.{numbers_of, field_tests, record_tests}
 use Rattle.format.specs.Types.{service, places, places_of, fields_of}
 use Rattle.format.specs.Values.{power_of, count_of}
+use Rattle.types.specs.declared.rows.Place.{Place}
+use Rattle.types.specs.Rows.{no_place, Describes}
+use Rattle.types.proofs.Table.{place_at}
 
 -- ---- by number
 
@@ -43,17 +46,24 @@ power_at t i = ap power (sym (get_or-drop 10 (absent ∷ fields_of t) i absent))
 pub power-past : (t i : ℕ) → places ≤ i → power_of t (10 + i) ≡ 0
 power-past t i h = power_at t i ∙ ap power (get_or-eq_default (places_of t) absent (omega (arith, length_information t)))
 
+-- the table's power at the place i is that of the field's number
+pub table_power : {t : ℕ} {table : List Place} (n i : ℕ) → Describes t table → 10 ≤ n → i ≡ n - 10
+    → (get_or table i no_place).power ≡ power_of t n
+table_power {t} n i d l e =
+    let number : 10 + i ≡ n = omega arith in
+    ap (λ (p : Place). p.power) (place_at d i) ∙ sym (power_at t i) ∙ ap (power_of t) number
+
 -- only fields 10 on, one a place, have one
-pub powered : (t n : ℕ) → (power_of t n ≡ 0 → ⊥) → (10 ≤ n) × (n - 10 < places)
+pub powered : (t n : ℕ) → 0 < power_of t n → (10 ≤ n) × (n - 10 < places)
 powered t n p = late (dec_lt n 10)
   where
     inner : 10 ≤ n → Dec (places ≤ n - 10) → (10 ≤ n) × (n - 10 < places)
     inner l (yes h) =
-        let e : 10 + (n - 10) ≡ n = omega arith in absurd (p (ap (power_of t) (sym e) ∙ power-past t (n - 10) h))
+        let e : 10 + (n - 10) ≡ n = omega arith in absurd (omega (arith, p, ap (power_of t) (sym e) ∙ power-past t (n - 10) h))
     inner l (no h) = (l, lt_of_not-le h)
 
     late : Dec (n < 10) → (10 ≤ n) × (n - 10 < places)
-    late (yes h) = absurd (p (power_early t n h))
+    late (yes h) = absurd (omega (arith, p, power_early t n h))
     late (no h) = let l : 10 ≤ n = omega (arith, h) in inner l (dec_le places (n - 10))
 
 pub count_at : (r : Record) (i : ℕ) → count_of r (10 + i) ≡ get_or r.numbers i (pos 0)
@@ -78,7 +88,7 @@ few_number (signed w k) v e r p =
 few_number absent v e r p = absurd (p refl)
 
 -- a record that passes its tests has such a count in each field with a power
-pub count_few : (r : Record) (i : ℕ) → record_tests r ≡ Passed → i < length r.numbers → (power_of r.kind (10 + i) ≡ 0 → ⊥)
+pub count_few : (r : Record) (i : ℕ) → record_tests r ≡ Ok tt → i < length r.numbers → (power_of r.kind (10 + i) ≡ 0 → ⊥)
     → nat_abs (get_or r.numbers i (pos 0)) < 2 ^ 53
 unfolding record_tests
 count_few r i d h p =

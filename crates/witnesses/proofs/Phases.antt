@@ -1,5 +1,6 @@
 -- Recordings in opposite phase: what was shown of straight ones holds of their complements inverted; and a straight one that is read
 -- inverted. Every fact about bits is computed. Assumes nothing.
+use Rattle.std.specs.Prelude.{Ok}
 use mathlib.Core.Path.{◌≡◌, refl, sym, ap, ◌∙◌, subst}
 use mathlib.Core.Bool.{Bool, true, ◌&&◌, and-eq-true_iff}
 use mathlib.Core.List.{List, [], ◌∷◌}
@@ -13,7 +14,6 @@ use Rattle.bits.specs.Bits.{recorded, complement, cut}
 use Rattle.bits.proofs.Phases.{complement-back, true_bytes-lt}
 use Rattle.cyclic.specs.Burst.{Burst}
 use Rattle.cyclic.specs.Register.{remainder}
-use Rattle.format.specs.declared.Answer.TheVariants.{Passed}
 use Rattle.format.specs.Answers.{answer_code}
 use Rattle.format.specs.Demand3.{Clean}
 use Rattle.format.specs.Fields.{in_range, values, minus_zeros}
@@ -21,7 +21,7 @@ use Rattle.format.specs.Reading.{information_bits, record_at, reading}
 use Rattle.format.specs.Records.{ranges, field_tests}
 use Rattle.format.specs.Standing.{check_passes, string_tests}
 use Rattle.format.specs.Strings.{string_bits, type_at, length_of, check_bits, generator_of, Stands}
-use Rattle.format.specs.Tests.{when, ◌then◌, count_tests, place_tests}
+use Rattle.format.specs.Tests.{when, ◌then◌, count_tests, place_tests, answer_of}
 use Rattle.format.specs.Types.{places_of}
 use Rattle.format.specs.Sets.{set_reading}
 use Rattle.format.proofs.Theorems.{inverted_back, inverted_reads-set}
@@ -42,18 +42,18 @@ below (x ∷ s) h zero = ltb-true x 256 ((and-eq-true_iff (ltb x 256) (all_bytes
 below (x ∷ s) h (suc i) = below s ((and-eq-true_iff (ltb x 256) (all_bytes s)).0 h).1 i
 
 -- ---- one string: its complement reads inverted, and it itself has no mark inverted
-pub complement-reads : (reading Inverted (complement tb959) 250 0).answer ≡ Passed
+pub complement-reads : answer_of (reading Inverted (complement tb959) 250 0) ≡ Ok tt
 unfolding tb959 reading recorded cut string_bits type_at length_of generator_of remainder check_passes string_tests count_tests place_tests
     when ◌then◌ field_tests ranges in_range record_at information_bits values minus_zeros places_of
 complement-reads = refl
 
-pub straight_unmarked : answer_code (reading Inverted tb959 250 0).answer ≡ (4, 0)
+pub straight_unmarked : answer_code (reading Inverted tb959 250 0) ≡ (4, 0)
 unfolding tb959 reading recorded cut string_bits type_at length_of generator_of remainder check_passes string_tests count_tests place_tests
     when ◌then◌
 straight_unmarked = refl
 
 -- ---- a set
-pub set-reads_inverted : set_reading Inverted (complement worked_bytes) 753 3 ≡ record { answer = Passed; content = worked }
+pub set-reads_inverted : set_reading Inverted (complement worked_bytes) 753 3 ≡ Ok worked
 unfolding worked_bytes
 set-reads_inverted =
     inverted_reads-set (complement worked_bytes) 753 (true_bytes-lt Inverted worked_bytes (below worked_bytes refl)) 3

@@ -1,4 +1,5 @@
 -- Sets: one that is written and reads, and what is answered where sets are refused. Every fact about bits is computed. Assumes nothing.
+use Rattle.std.specs.Prelude.{Ok}
 use mathlib.Core.Path.{◌≡◌, refl, subst}
 use mathlib.Core.List.{List, [], ◌∷◌, ◌++◌, map}
 use Prim.Native.Nat.{ℕ}
@@ -7,8 +8,6 @@ use lib.ListN.{length, get_or, replicate}
 use Rattle.bits.specs.declared.Phase.TheVariants.{Straight}
 use Rattle.bits.specs.Bits.{recorded, cut, put, covered_bytes, pack, filled}
 use Rattle.cyclic.specs.Register.{check, remainder}
-use Rattle.format.specs.declared.Answer.TheVariants.{Passed}
-use Rattle.format.specs.declared.Outcome.TheVariants.{Given}
 use Rattle.format.specs.Answers.{answer_code, outcome_code}
 use Rattle.format.specs.Fields.{in_range, values, minus_zeros, codes}
 use Rattle.format.specs.Reading.{information_bits, record_at, reading}
@@ -16,7 +15,7 @@ use Rattle.format.specs.Records.{raw_bytes, mark_of, mark_bits, ranges, unused, 
 use Rattle.format.specs.Sets.{set_tests, set_reading, set_bits, member_tests, set_write_tests, set_writing}
 use Rattle.format.specs.Standing.{check_passes, string_tests}
 use Rattle.format.specs.Strings.{string_bits, type_at, length_of, generator_of}
-use Rattle.format.specs.Tests.{when, ◌then◌, count_tests, place_tests}
+use Rattle.format.specs.Tests.{when, ◌then◌, count_tests, place_tests, answer_of}
 use Rattle.format.specs.Types.{places_of, raw_count}
 use Rattle.format.specs.Writing.{service_bits, content_bits, checked, string, with_bits}
 use Rattle.format.proofs.Sets.{TypedSet}
@@ -35,7 +34,7 @@ unfolding worked_bytes put cut set_bits string checked service_bits content_bits
     length_of generator_of
 worked_bytes_lem = refl
 
-worked-writes : set_writing (length lent) 753 3 worked ≡ Given 753
+worked-writes : set_writing (length lent) 753 3 worked ≡ Ok 753
 unfolding when ◌then◌ set_writing set_write_tests count_tests place_tests member_tests set_tests record_tests field_tests ranges in_range
     unused overfilled stray mark_bits mark_of places_of raw_count length_of generator_of
 worked-writes = refl
@@ -50,9 +49,9 @@ holds =
       third = record { numbers = refl; minus = omega arith; raw = refl; bytes = λ i. omega (arith, zero i) };
     }
 
-pub worked-reads : set_reading Straight worked_bytes 753 3 ≡ record { answer = Passed; content = worked }
+pub worked-reads : set_reading Straight worked_bytes 753 3 ≡ Ok worked
 worked-reads =
-    subst (λ (b : List ℕ). set_reading Straight b 753 3 ≡ record { answer = Passed; content = worked }) worked_bytes_lem
+    subst (λ (b : List ℕ). set_reading Straight b 753 3 ≡ Ok worked) worked_bytes_lem
     (set-written-back lent 753 3 753 worked holds worked-writes).reads
 
 -- ---- the same set between other bytes reads alike
@@ -66,7 +65,7 @@ unfolding worked_bytes covered_bytes reading recorded cut string_bits type_at le
     raw_count put pack filled
 around_alike = set-covered Straight (around 0) (around 255) 776 11 refl refl (λ one. refl) (λ one two. refl)
 
-pub around_reads : (set_reading Straight (around 0) 776 11).answer ≡ Passed
+pub around_reads : answer_of (set_reading Straight (around 0) 776 11) ≡ Ok tt
 unfolding worked_bytes set_reading set_tests reading recorded cut string_bits type_at length_of generator_of remainder check_passes
     string_tests count_tests place_tests when ◌then◌ field_tests ranges in_range record_at information_bits values minus_zeros mark_of
     places_of raw_count put pack filled
@@ -81,7 +80,7 @@ writings-answer = refl
 
 -- ---- where the strings of a set are looked for
 
-pub unlike_answer : map (λ r. answer_code (set_reading Straight unlike_bytes r.0 0).answer) unlike_readings ≡ map (λ r. r.1) unlike_readings
+pub unlike_answer : map (λ r. answer_code (set_reading Straight unlike_bytes r.0 0)) unlike_readings ≡ map (λ r. r.1) unlike_readings
 unfolding unlike_bytes set_reading set_tests reading recorded cut string_bits type_at length_of generator_of remainder check_passes
     string_tests count_tests place_tests when ◌then◌ field_tests ranges in_range record_at information_bits values minus_zeros mark_of
     places_of raw_count put pack filled

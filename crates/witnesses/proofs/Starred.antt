@@ -1,4 +1,7 @@
 -- The starred examples hold: one test over all rows, and one theorem. Assumes nothing.
+use Rattle.format.specs.declared.Record.{Record}
+use Rattle.format.specs.declared.Refusal.{Refusal}
+use Rattle.std.specs.Prelude.{Result}
 use mathlib.Core.Path.{◌≡◌, refl, ap}
 use mathlib.Core.Bool.{true, ◌&&◌, false≢true, and-eq-true_iff}
 use mathlib.Core.List.{List, [], ◌∷◌}
@@ -9,12 +12,11 @@ use borrow.Author.Tests.{eqb-true}
 use Rattle.bits.specs.declared.Phase.TheVariants.{Straight}
 use Rattle.bits.specs.Bits.{recorded, cut}
 use Rattle.cyclic.specs.Register.{check, remainder}
-use Rattle.format.specs.declared.Reading.{Reading}
 use Rattle.format.specs.Answers.{answer_code, outcome_code}
 use Rattle.format.specs.Tests.{when, ◌then◌, count_tests, place_tests}
 use Rattle.format.specs.Listing.{list_answer, listing, scan, starts}
 use Rattle.format.specs.Fields.{in_range, values, minus_zeros}
-use Rattle.format.specs.Reading.{information_bits, reading, record_at}
+use Rattle.format.specs.Reading.{information_bits, reading, record_at, content_of}
 use Rattle.format.specs.Standing.{check_passes, string_tests}
 use Rattle.format.specs.Records.{mark_of, field_tests, ranges, unused, overfilled, stray, mark_bits, record_tests}
 use Rattle.format.specs.Strings.{string_bits, type_at, length_of, generator_of}
@@ -36,12 +38,12 @@ same_answer_lem code number value t =
     let u = (and-eq-true_iff (eqb code.0 number) (eqb code.1 value)).0 t in
     (eqb-true code.0 number u.0, eqb-true code.1 value u.1)
 
-same_field_lem : (found : Reading) (field : ℕ) (value : ℤ) (minus : ℕ) → same_field found field value minus ≡ true
+same_field_lem : (found : Result Record Refusal) (field : ℕ) (value : ℤ) (minus : ℕ) → same_field found field value minus ≡ true
     → Reads found field value minus
 same_field_lem found field value minus t =
-    let a = answer_code found.answer in
-    let v = count_of found.content field in
-    let m = found.content.minus in
+    let a = answer_code found in
+    let v = count_of (content_of found) field in
+    let m = (content_of found).minus in
     let u = (and-eq-true_iff (same_answer a 0 0) (same_int v value && eqb m minus)).0 t in
     let w = (and-eq-true_iff (same_int v value) (eqb m minus)).0 u.1 in
     (same_answer_lem a 0 0 u.0, same_int_lem v value w.0, eqb-true m minus w.1)
@@ -50,7 +52,7 @@ same_field_lem found field value minus t =
 sound : (e : Example) → holds e ≡ true → Says e
 sound (check_is type from_end value) t = eqb-true (check_of type from_end) value t
 sound (listing_is bytes count room number value) t = same_answer_lem (outcome_code (listing Straight bytes count room)) number value t
-sound (reading_is bytes count place number value) t = same_answer_lem (answer_code (reading Straight bytes count place).answer) number
+sound (reading_is bytes count place number value) t = same_answer_lem (answer_code (reading Straight bytes count place)) number
     value t
 sound (field_is bytes count place field value minus) t = same_field_lem (reading Straight bytes count place) field value minus t
 sound (writing_is r bytes count place number value) t = same_answer_lem (outcome_code (writing bytes count place r)) number value t

@@ -1,12 +1,11 @@
 -- The bits of `specs/Values`, both ends of the accuracy factor, and numbers that name no field with a power, computed. Assumes nothing.
+use Rattle.std.specs.Prelude.{Ok, Err}
 use mathlib.Core.Path.{◌≡◌, refl}
 use mathlib.Core.List.{List, [], ◌∷◌, map}
 use Prim.Native.Nat.{ℕ}
 use lib.IntN.{pos, negsuc}
 use lib.Ieee.{binary64, to_bits, of_bits, size}
-use Rattle.format.specs.declared.Outcome.TheVariants.{Given, NotGiven}
 use Rattle.format.specs.declared.Refusal.TheVariants.{OutOfRange}
-use Rattle.format.specs.declared.Value.TheVariants.{Number, NoValue}
 use Rattle.format.specs.Answers.{value_code}
 use Rattle.format.specs.Tests.{when, ◌then◌}
 use Rattle.format.specs.Fields.{in_range}
@@ -17,7 +16,7 @@ use Rattle.format.specs.Values.{power_of, count_of, digit_bits, scaled_bits, sca
 use Rattle.witnesses.specs.Values.{Pattern, patterns, position}
 
 pub given : map (λ (p : Pattern). scaling p.content p.field) patterns
-    ≡ map (λ (p : Pattern). Number (of_bits binary64 p.bits)) patterns
+    ≡ map (λ (p : Pattern). Ok (of_bits binary64 p.bits)) patterns
 unfolding scaling power_of count_of scaled_bits digit_bits size of_bits when ◌then◌ record_tests field_tests ranges in_range unused
     overfilled stray mark_bits places_of raw_count length_of generator_of
 given = refl
@@ -32,13 +31,13 @@ same_bits = refl
 abbrev powerless : List ℕ
 powerless = 0 ∷ 1 ∷ 9 ∷ 16 ∷ 17 ∷ 26 ∷ []
 
-pub no_power : map (scaling (position (pos 1) 0)) powerless ≡ map (λ n. NoValue (OutOfRange n)) powerless
+pub no_power : map (scaling (position (pos 1) 0)) powerless ≡ map (λ n. Err (OutOfRange n)) powerless
 unfolding scaling power_of count_of when ◌then◌ record_tests field_tests ranges in_range unused overfilled stray mark_bits places_of
     raw_count length_of generator_of
 no_power = refl
 
 -- The ends of the table, the factor that is undefined, and the first on each side that is refused.
 pub accuracies : map accuracy (negsuc 15 ∷ negsuc 14 ∷ pos 14 ∷ pos 15 ∷ pos 16 ∷ [])
-    ≡ NotGiven (OutOfRange 19) ∷ Given 1 ∷ Given 51200 ∷ Given 0 ∷ NotGiven (OutOfRange 19) ∷ []
+    ≡ Err (OutOfRange 19) ∷ Ok 1 ∷ Ok 51200 ∷ Ok 0 ∷ Err (OutOfRange 19) ∷ []
 unfolding accuracy ranges in_range
 accuracies = refl

@@ -1,12 +1,12 @@
 -- The records of `specs/Writable` write, by computation, and so one of them reads back. Assumes nothing.
+use Rattle.std.specs.Prelude.{Ok}
+use Rattle.format.specs.Tests.{Outcome}
 use mathlib.Core.Path.{◌≡◌, refl}
 use mathlib.Core.List.{List, map}
 use Prim.Native.Nat.{ℕ, zero, suc, ◌+◌}
 use native.Mathlib.Omega.{arith}
 use lib.ListN.{length, get_or, replicate}
 use Rattle.bits.specs.Bits.{pack, filled, put, cut}
-use Rattle.format.specs.declared.Outcome.{Outcome}
-use Rattle.format.specs.declared.Outcome.TheVariants.{Given}
 use Rattle.format.specs.Tests.{when, ◌then◌, count_tests, place_tests}
 use Rattle.format.specs.Fields.{in_range}
 use Rattle.format.specs.Records.{mark_of, mark_bits, ranges, field_tests, unused, overfilled, stray, record_tests, raw_bytes}
@@ -19,7 +19,7 @@ use Rattle.witnesses.specs.Writable.{kinds, lowest, highest, minus_zero}
 
 -- At place 3 of 384 bits, not at a byte's edge: the place after each string.
 abbrev after : ℕ → Outcome
-after t = Given (3 + length_of t)
+after t = Ok (3 + length_of t)
 
 pub lowest_write : map (λ t. writing 48 384 3 (lowest t)) kinds ≡ map after kinds
 unfolding when ◌then◌ writing write_tests count_tests place_tests record_tests field_tests ranges in_range unused overfilled stray mark_bits
@@ -49,10 +49,10 @@ holds = record { numbers = refl; minus = omega arith; raw = refl; bytes = λ i. 
 abbrev lent : List ℕ
 lent = replicate 48 170
 
-written : writing (length lent) 384 3 (minus_zero 11) ≡ Given 253
+written : writing (length lent) 384 3 (minus_zero 11) ≡ Ok 253
 unfolding when ◌then◌ writing write_tests count_tests place_tests record_tests field_tests ranges in_range unused overfilled stray mark_bits
     mark_of places_of raw_count length_of generator_of
 written = refl
 
-pub reads-back : ReadsBack (bytes_after (Given 253) 3 (string (minus_zero 11)) lent) 384 3 (minus_zero 11)
+pub reads-back : ReadsBack (bytes_after (Ok 253) 3 (string (minus_zero 11)) lent) 384 3 (minus_zero 11)
 reads-back = written_back lent 384 3 253 (minus_zero 11) holds written

@@ -1,13 +1,13 @@
 -- The starred examples of document 01, as rows of one table. Assumes nothing.
-use Rattle.std.specs.Prelude.{◌≡◌, Bool, true, false, ◌&&◌, List, [], ◌∷◌, ◌++◌, ℕ, ◌-◌, eqb, ℤ, pos, negsuc, replicate}
+use Rattle.format.specs.declared.Refusal.{Refusal}
+use Rattle.std.specs.Prelude.{◌≡◌, Bool, true, false, ◌&&◌, List, [], ◌∷◌, ◌++◌, ℕ, ◌-◌, eqb, ℤ, pos, negsuc, replicate, Result}
 use Rattle.bits.specs.declared.Phase.TheVariants.{Straight}
 use Rattle.bits.specs.Bits.{number, zeros}
 use Rattle.cyclic.specs.Register.{check}
-use Rattle.format.specs.declared.Reading.{Reading}
 use Rattle.format.specs.declared.Record.{Record}
 use Rattle.format.specs.Answers.{answer_code, outcome_code}
 use Rattle.format.specs.Listing.{listing}
-use Rattle.format.specs.Reading.{reading}
+use Rattle.format.specs.Reading.{reading, content_of}
 use Rattle.format.specs.Records.{raw_bytes}
 use Rattle.format.specs.Strings.{length_of, generator_of, check_bits}
 use Rattle.format.specs.Values.{count_of, day_count}
@@ -61,14 +61,14 @@ abbrev pub Answers : ℕ × ℕ → ℕ → ℕ → Type 0
 Answers code number value = (code.0 ≡ number) × (code.1 ≡ value)
 
 -- A reading answers 0 and 0; its record has this number in this field, and this minus-zero mark.
-abbrev pub Reads : Reading → ℕ → ℤ → ℕ → Type 0
+abbrev pub Reads : Result Record Refusal → ℕ → ℤ → ℕ → Type 0
 Reads found field value minus =
-    Answers (answer_code found.answer) 0 0 × (count_of found.content field ≡ value) × (found.content.minus ≡ minus)
+    Answers (answer_code found) 0 0 × (count_of (content_of found) field ≡ value) × ((content_of found).minus ≡ minus)
 
 abbrev pub Says : Example → Type 0
 Says (check_is type from_end value) = check_of type from_end ≡ value
 Says (listing_is bytes count room number value) = Answers (outcome_code (listing Straight bytes count room)) number value
-Says (reading_is bytes count place number value) = Answers (answer_code (reading Straight bytes count place).answer) number value
+Says (reading_is bytes count place number value) = Answers (answer_code (reading Straight bytes count place)) number value
 Says (field_is bytes count place field value minus) = Reads (reading Straight bytes count place) field value minus
 Says (writing_is r bytes count place number value) = Answers (outcome_code (writing bytes count place r)) number value
 Says (days_is n4 nt number value) = Answers (outcome_code (day_count n4 nt)) number value
@@ -108,14 +108,14 @@ same_int (negsuc a) (negsuc b) = eqb a b
 abbrev pub same_answer : ℕ × ℕ → ℕ → ℕ → Bool
 same_answer code number value = eqb code.0 number && eqb code.1 value
 
-abbrev pub same_field : Reading → ℕ → ℤ → ℕ → Bool
+abbrev pub same_field : Result Record Refusal → ℕ → ℤ → ℕ → Bool
 same_field found field value minus =
-    same_answer (answer_code found.answer) 0 0 && (same_int (count_of found.content field) value && eqb found.content.minus minus)
+    same_answer (answer_code found) 0 0 && (same_int (count_of (content_of found) field) value && eqb (content_of found).minus minus)
 
 abbrev pub holds : Example → Bool
 holds (check_is type from_end value) = eqb (check_of type from_end) value
 holds (listing_is bytes count room number value) = same_answer (outcome_code (listing Straight bytes count room)) number value
-holds (reading_is bytes count place number value) = same_answer (answer_code (reading Straight bytes count place).answer) number value
+holds (reading_is bytes count place number value) = same_answer (answer_code (reading Straight bytes count place)) number value
 holds (field_is bytes count place field value minus) = same_field (reading Straight bytes count place) field value minus
 holds (writing_is r bytes count place number value) = same_answer (outcome_code (writing bytes count place r)) number value
 holds (days_is n4 nt number value) = same_answer (outcome_code (day_count n4 nt)) number value

@@ -1,4 +1,5 @@
 -- The string of a record from the pieces that the code puts. Assumes nothing.
+use Rattle.std.specs.Prelude.{Ok}
 use mathlib.Core.Path.{◌≡◌, refl, sym, ap, ap₂, ◌∙◌, subst}
 use mathlib.Core.Bool.{Bool}
 use mathlib.Core.List.{List, ◌++◌, append_assoc}
@@ -9,7 +10,6 @@ use Rattle.bits.specs.Bits.{number, bits, unpack, cut, put}
 use Rattle.bits.proofs.Lists.{put_join, cut-put}
 use Rattle.bits.proofs.Numbers.{number_lt, number_append, number-back, bits_back}
 use Rattle.cyclic.specs.Register.{check}
-use Rattle.format.specs.declared.Answer.TheVariants.{Passed}
 use Rattle.format.specs.declared.Record.{Record}
 use Rattle.format.specs.Fields.{total, codes}
 use Rattle.format.specs.Records.{mark_bits, field_tests, record_tests}
@@ -25,7 +25,7 @@ use Rattle.format.proofs.Writing.{ranged, length-service, length-check_of, Typed
 in_front : (w x n k : ℕ) (q : List Bool) → x < 2 ^ w → length q ≡ n → number q ≡ k → number (bits w x ++ q) ≡ x * 2 ^ n + k
 in_front w x n k q h l e = number_append (bits w x) q ∙ rw (number-back w x h, l, e) refl
 
-pub service-number : (r : Record) → field_tests r ≡ Passed
+pub service-number : (r : Record) → field_tests r ≡ Ok tt
     → ((((((((r.kind * 64 + r.satellite) * 2 + r.signal) * 2 + r.validity) * 16 + r.call) * 2 + r.attitude) * 4 + r.correction) * 2
     + r.next) * 65536 + r.time) ≡ number (service_bits r)
 unfolding service_bits
@@ -59,7 +59,7 @@ check-lt t c degree p e d =
 pub service-lt : (r : Record) (x : ℕ) → x ≡ number (service_bits r) → x < 2 ^ 38
 service-lt r x e = rw e (subst (λ (n : ℕ). number (service_bits r) < 2 ^ n) (length-service r) (number_lt (service_bits r)))
 
-pub fields_pass : (r : Record) → record_tests r ≡ Passed → field_tests r ≡ Passed
+pub fields_pass : (r : Record) → record_tests r ≡ Ok tt → field_tests r ≡ Ok tt
 unfolding record_tests
 fields_pass r e = (then_pass (field_tests r) _ e).0
 

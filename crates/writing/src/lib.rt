@@ -1,9 +1,8 @@
 // Writing a record as a string.
 #![tactic(auto)]
 
-ghost use Rattle.std.specs.Prelude.{◌≡◌, ◌+◌, ◌*◌, ◌^◌, ◌<◌, ◌≤◌, length};
+ghost use Rattle.std.specs.Prelude.{Ok, ◌≡◌, ◌+◌, ◌*◌, ◌^◌, ◌<◌, ◌≤◌, length};
 ghost use Rattle.bits.specs.Bits.{number, unpack, cut, put};
-ghost use Rattle.format.specs.declared.Answer.TheVariants.{Passed};
 ghost use Rattle.format.specs.declared.Refusal.TheVariants.{RunsOut};
 ghost use Rattle.format.specs.Records.{field_tests, record_tests};
 ghost use Rattle.format.specs.Strings.{length_of};
@@ -11,88 +10,90 @@ ghost use Rattle.format.specs.Tests.{bit_limit, when, above};
 ghost use Rattle.format.specs.Types.{most_raw};
 ghost use Rattle.format.specs.Writing.{service_bits, string, with_bits, WritePromise};
 
-use bits::Phase;
-use format::{Answer, Outcome, RAW_BYTES, Record, Refusal};
+use bits::{Part, Phase};
+use fields::Numbers;
+use format::{RAW_BYTES, Record, Refusal};
+
+// A record that passes its tests.
+#[derive(Clone, Copy)]
+pub struct Writable {
+    pub content: Record,
+    pub ghost passes: { record_tests content ≡ Ok tt },
+}
 
 // The service bits of a record, bits 13 to 50, as a number.
 fn service(r: Record) -> u64
-    requires { field_tests r ≡ Passed }
+    requires { field_tests r ≡ Ok tt }
     ensures { result ≡ number (service_bits r) }
 {
-    let satellite = r.kind as u64 * 64 + r.satellite as u64;
-    let validity = (satellite * 2 + r.signal as u64) * 2 + r.validity as u64;
-    let attitude = (validity * 16 + r.call as u64) * 2 + r.attitude as u64;
-    let next = (attitude * 4 + r.correction as u64) * 2 + r.next as u64;
+    let satellite = u64::from(r.kind) * 64 + u64::from(r.satellite);
+    let validity = (satellite * 2 + u64::from(r.signal)) * 2 + u64::from(r.validity);
+    let attitude = (validity * 16 + u64::from(r.call)) * 2 + u64::from(r.attitude);
+    let next = (attitude * 4 + u64::from(r.correction)) * 2 + u64::from(r.next);
     next * 65536 + r.time
 }
 
-// Puts the first `n` raw bits from the place `to` on; most types have none.
+// Puts the first `n` raw bits from the place `to` on.
 fn put_raw(part: &mut [u8], to: usize, raw: [u8; RAW_BYTES], n: usize)
     requires { (n ≤ most_raw) × (to + n ≤ 8 * length part.old) × (to + n < 2 ^ 64) }
     ensures { unpack part.new ≡ put to (cut 0 n (unpack raw)) (unpack part.old) }
 {
-    if n == 0 {
-        return;
-    }
-    puts::copy_bits(part, to, &raw, Phase::Straight, 0, n);
+    let raw = Part {
+        bytes: &raw,
+        phase: Phase::Straight,
+    };
+    puts::copy_bits(part, to, raw, 0, n);
 }
 
-// Puts the string of a record, of so many bits, at the place `offset`.
-fn put_string(part: &mut [u8], offset: usize, r: Record, long: usize)
-    requires { (offset < 8) × (long ≡ length_of r.kind) × (offset + long ≤ 8 * length part.old) × (record_tests r ≡ Passed) }
-    ensures { unpack part.new ≡ put offset (string r) (unpack part.old) }
+// Puts the string of a record at the place `offset`.
+fn put_string(part: &mut [u8], offset: usize, r: Writable)
+    requires { (offset < 8) × (offset + length_of r.content.kind ≤ 8 * length part.old) }
+    ensures { unpack part.new ≡ put offset (string r.content) (unpack part.old) }
 {
-    let kind = r.kind;
-    let numbers = r.numbers;
-    let raw = r.raw;
+    let content = r.content;
+    let kind = content.kind;
     let degree = types::check_count(kind);
-    let count = long - degree;
+    let count = types::length_of(kind) - degree;
     let n = types::raw_count(kind);
-    let to = offset + count - n;
-    puts::put_field(part, offset, 50, (format::MARK << 38) + service(r));
-    fields::put_numbers(part, offset + 50, to, kind, numbers, r.minus);
-    put_raw(part, to, raw, n);
+    let numbers = content.numbers;
+    let minus = content.minus;
+    puts::put_field(part, offset, 50, (format::MARK << 38) + service(content));
+    fields::put_numbers(part, offset + 50, kind, &Numbers { numbers, minus });
+    put_raw(part, offset + count - n, content.raw, n);
     let c = types::check(part, offset, count, kind);
-    puts::put_field(part, offset + count, degree, c as u64);
+    puts::put_field(part, offset + count, degree, u64::from(c));
 }
 
-// Puts the string of a record, of so many bits, at a place.
-pub fn put_at(rec: &mut [u8], place: usize, r: Record, long: usize)
-    requires { (long ≡ length_of r.kind) × (place + long ≤ bit_limit) × (place + long ≤ 8 * length rec.old)
-        × (record_tests r ≡ Passed) }
-    ensures { rec.new ≡ with_bits place (string r) rec.old }
+// Puts the string of a record at a place.
+pub fn put_at(rec: &mut [u8], place: usize, r: Writable)
+    requires { (place + length_of r.content.kind ≤ bit_limit) × (place + length_of r.content.kind ≤ 8 * length rec.old) }
+    ensures { rec.new ≡ with_bits place (string r.content) rec.old }
 {
+    let long = types::length_of(r.content.kind);
     let first = place / 8;
-    let last = (place + long + 7) / 8;
-    put_string(&mut rec[first..last], place % 8, r, long);
+    let last = (place + long).div_ceil(8);
+    put_string(&mut rec[first..last], place % 8, r);
 }
 
 // The test 5 of so many bits at a place.
-pub fn room_test(count: usize, place: usize, long: usize) -> Answer
+pub fn room_test(count: usize, place: usize, long: usize) -> Result<(), Refusal>
     requires { (count ≤ bit_limit) × (place ≤ count) }
     ensures { result ≡ when (above (place + long) count) (RunsOut place) }
 {
     if long > count - place {
-        return Answer::Refused(Refusal::RunsOut(place));
+        return Err(Refusal::RunsOut(place));
     }
-    Answer::Passed
+    Ok(())
 }
 
 // Writes a record's string at a place, and answers the place after it. A refusal leaves every byte unchanged.
-pub fn write(rec: &mut [u8], count: usize, place: usize, r: Record) -> Outcome
+pub fn write(rec: &mut [u8], count: usize, place: usize, r: Record) -> Result<usize, Refusal>
     ensures { WritePromise rec.old count place r result rec.new }
 {
-    let early = answers::place_tests(rec.len(), count, place);
-    if let Answer::Refused(refusal) = early {
-        return Outcome::NotGiven(refusal);
-    }
+    answers::place_tests(rec.len(), count, place)?;
+    records::record_tests(&r)?;
     let long = types::length_of(r.kind);
-    let tested = records::record_tests(r);
-    let late = answers::first(tested, room_test(count, place, long));
-    if let Answer::Refused(refusal) = late {
-        return Outcome::NotGiven(refusal);
-    }
-    put_at(rec, place, r, long);
-    let next = place + long;
-    Outcome::Given(next)
+    room_test(count, place, long)?;
+    put_at(rec, place, Writable { content: r });
+    Ok(place + long)
 }

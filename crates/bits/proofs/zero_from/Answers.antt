@@ -1,27 +1,21 @@
--- `bits::zero_from`: no bit from the place on is one where what was seen is zero and the bits of the bytes from i on are. Assumes nothing.
-use mathlib.Core.Path.{◌∙◌}
-use Prim.Native.Nat.{◌-◌, ◌%◌, ◌^◌}
-use native.Mathlib.Nat.{mod-le}
-use native.Mathlib.Omega.{arith}
-use borrow.Author.Rules.{rules}
-use Rattle.bits.proofs.Zero.{zero-past, first_seen, byte_seen, all_seen}
+-- `bits::zero_from`: no bit from the place on is one where what was seen is zero. Assumes nothing.
+use Rattle.std.proofs.Common.{rules, ◌≡◌, ◌-◌, ◌%◌, ◌/◌, ◌^◌, ◌<◌, ℕ, suc, List, ◌∷◌, get_or, take, drop, length, bit_and, bit_or}
+use mathlib.Core.Path.{ap, subst, ◌∙◌}
+use Rattle.std.specs.List.{fold}
+use lib.Dec.{eqb}
+use Rattle.bits.proofs.Bytes.{part_lt}
+use Rattle.bits.proofs.Zero.{zero-past, all_seen}
 use Rattle.bits.proofs.zero_from.Goals as goal
 
-pub returns-then-first-part : goal.returns-then-first-part
-returns-then-first-part c =
-    let a = c.args in
-    zero-past a.part.now a.from c.requires c.if-first-part.true
-
-pub overflow_cast-seen : goal.overflow_cast-seen
-overflow_cast-seen c = record { fits = rw c.low-seen.ensures (omega (arith, mod-le c.wide.result (2 ^ (8 - c.args.from % 8)))) }
-
-pub loop-i-init : goal.loop-i-init
-loop-i-init c = (search rules, first_seen c.args.part.now c.args.from _ _ (search rules) c.wide.ensures.0 c.low-seen.ensures)
-
-pub loop-i-preserved : goal.loop-i-preserved
-loop-i-preserved c =
-    let byte_fits = (c.shared_slice_known-in-loop-i-1.given c.loop-i.i).fits in
-    (search rules, byte_seen c.args.part.now c.loop-i.i c.loop-i.seen (search rules) byte_fits ∙ c.loop-i.invariant.1)
+pub returns-in_default : goal.returns-in_default
+returns-in_default c = zero-past c.args.bytes.now c.args.from (search rules)
 
 pub returns : goal.returns
-returns c = all_seen c.args.part.now c.loop-i.i c.loop-i.seen (omega arith) ∙ c.loop-i.invariant.1
+returns c =
+    let a = c.args in
+    let x : ℕ = c.in-Some.first.now in
+    let t = c.in-Some.rest.now in
+    let e : c.fold.result ≡ fold bit_or (bit_and x (255 / 2 ^ (a.from % 8))) t = search rules in
+    let s : take (length a.bytes.now - a.from / 8) (drop (a.from / 8) a.bytes.now) ≡ x ∷ t = search rules in
+    let h = part_lt (a.from / 8) (length a.bytes.now - a.from / 8) a.bytes.now (λ i. (c.type_inv.bytes i).fits) in
+    ap (λ (n : ℕ). eqb n 0) e ∙ all_seen a.bytes.now t a.from x s (λ i. subst (λ (l : List ℕ). get_or l (suc i) 0 < 256) s (h (suc i)))

@@ -1,7 +1,7 @@
 -- `fields::numbers_at`: what the loop has decoded when it has come to the place i of the record. Assumes nothing.
-use mathlib.Core.Path.{◌≡◌, ◌∙◌}
+use mathlib.Core.Path.{◌∙◌}
 use mathlib.Core.List.{List}
-use Prim.Native.Nat.{ℕ, ◌+◌, ◌*◌, ◌≤◌}
+use Prim.Native.Nat.{ℕ, ◌*◌, ◌≤◌}
 use native.Mathlib.Omega.{arith}
 use lib.ListN.{length}
 use mir.Facts.{to_z-of_z}
@@ -9,85 +9,54 @@ use mir.Syntax.{w64}
 use Rattle.bits.proofs.Phases.{length_true}
 use Rattle.bits.specs.declared.Phase.{Phase}
 use Rattle.bits.specs.Bits.{true_bits}
-use Rattle.format.proofs.Information.{marks_cover}
-use Rattle.format.specs.Fields.{total}
-use Rattle.format.specs.Types.{places_of}
-use Rattle.fields.proofs.Decoding.{read_start, read_on, read_all, left_here}
+use Rattle.fields.proofs.Decoding.{read_start, read_on, read_all}
 use Rattle.fields.proofs.Decoding.{mark-fits, width-here, signed-here, inside_here, small_here}
 use Rattle.fields.proofs.numbers_at.Goals as goal
 
 -- the fields end within the part
-inside-part : (φ : Phase) (s : List ℕ) (from n : ℕ) {to : ℕ} → to ≡ from + n → to ≤ 8 * length s → from + n ≤ length (true_bits φ s)
-inside-part φ s from n e h = omega (arith, length_true φ s, e, h)
+inside-part : (φ : Phase) (s : List ℕ) {n : ℕ} → n ≤ 8 * length s → n ≤ length (true_bits φ s)
+inside-part φ s h = omega (arith, length_true φ s)
 
-pub loop-at-init : goal.loop-at-init
-loop-at-init c =
-    let a = c.args in
-    (omega arith, read_start (true_bits a.phase a.part.now) a.from a.kind)
+pub loop-i-init : goal.loop-i-init
+loop-i-init c = read_start (true_bits c.args.part.phase c.args.part.bytes.now) c.args.from c.args.kind
 
-pub bounds-widths-i : goal.bounds-widths-i
-bounds-widths-i c = left_here c.loop-at.invariant.1 (omega (arith, c.requires.0))
+pub field-word-requires : goal.field-word-requires
+field-word-requires c =
+    let g = c.loop-i.invariant in
+    let d = c.places_of-place-items.ensures in
+    let h = c.loop-i-test.true in
+    (width-here g d h, omega (arith, inside_here g d h, c.requires.0))
 
-pub bounds-signs-i : goal.bounds-signs-i
-bounds-signs-i c = left_here c.loop-at.invariant.1 (omega (arith, c.requires.0))
-
-pub field-x-requires : goal.field-x-requires
-field-x-requires c =
-    let below = left_here c.loop-at.invariant.1 (omega (arith, c.requires.0)) in
-    let inside = inside_here c.loop-at.invariant.1 c.widths_of-widths.ensures c.row_of-row.ensures below in (
-      width-here c.loop-at.invariant.1 c.widths_of-widths.ensures c.row_of-row.ensures below,
-      omega (arith, inside, c.requires.0, c.requires.1),
-    )
-
-pub number_of-requires : goal.number_of-requires
-number_of-requires c =
-    let below = left_here c.loop-at.invariant.1 (omega (arith, c.requires.0)) in
-    let room = inside-part c.args.phase c.args.part.now c.args.from (total (places_of c.args.kind)) c.requires.0 c.requires.1 in
-    let g = c.loop-at.invariant.1 in
-    let w = c.widths_of-widths.ensures in
-    let d = c.row_of-row.ensures in
-    (signed-here g w d below, width-here g w d below, small_here g w d below room c.field-x.ensures)
-
-pub bounds-numbers-i : goal.bounds-numbers-i
-bounds-numbers-i c = left_here c.loop-at.invariant.1 (omega (arith, c.requires.0))
-
-pub mark_bit-minus-requires : goal.mark_bit-minus-requires
-mark_bit-minus-requires c =
-    let below = left_here c.loop-at.invariant.1 (omega (arith, c.requires.0)) in
-    let room = inside-part c.args.phase c.args.part.now c.args.from (total (places_of c.args.kind)) c.requires.0 c.requires.1 in
-    let g = c.loop-at.invariant.1 in
-    let w = c.widths_of-widths.ensures in
-    let d = c.row_of-row.ensures in
-    (signed-here g w d below, width-here g w d below, small_here g w d below room c.field-x.ensures, omega (arith, below, marks_cover))
+pub invariant_of-field : goal.invariant_of-field
+invariant_of-field c =
+    let g = c.loop-i.invariant in
+    let d = c.places_of-place-items.ensures in
+    let h = c.loop-i-test.true in
+    let room = inside-part c.args.part.phase c.args.part.bytes.now c.requires.0 in
+    record { narrow = width-here g d h; sized = signed-here g d h; small = small_here g d h room c.field-word.ensures }
 
 pub overflow_add-minus : goal.overflow_add-minus
 overflow_add-minus c =
-    let below = left_here c.loop-at.invariant.1 (omega (arith, c.requires.0)) in
-    let room = inside-part c.args.phase c.args.part.now c.args.from (total (places_of c.args.kind)) c.requires.0 c.requires.1 in
-    let number = to_z-of_z {w = w64} (record { sfits = c.number_of.type_inv }) ∙ c.number_of.ensures in
-    let more = read_on c.loop-at.invariant.1 c.widths_of-widths.ensures c.row_of-row.ensures below room c.field-x.ensures number
-    c.mark_bit-minus.ensures in
-    record { fits = mark-fits more }
+    let g = c.loop-i.invariant in
+    let d = c.places_of-place-items.ensures in
+    let h = c.loop-i-test.true in
+    let room = inside-part c.args.part.phase c.args.part.bytes.now c.requires.0 in
+    let number = to_z-of_z {w = w64} (record { sfits = c.number.type_inv }) ∙ c.number.ensures in
+    record { fits = mark-fits (read_on g d h room c.field-word.ensures number c.mark_bit-minus.ensures) }
 
 pub overflow_add-at : goal.overflow_add-at
 overflow_add-at c =
-    let below = left_here c.loop-at.invariant.1 (omega (arith, c.requires.0)) in
-    let inside = inside_here c.loop-at.invariant.1 c.widths_of-widths.ensures c.row_of-row.ensures below in
-    record { fits = omega (arith, inside, c.requires.0) }
+    let inside = inside_here c.loop-i.invariant c.places_of-place-items.ensures c.loop-i-test.true in
+    record { fits = omega (arith, inside, c.requires.1) }
 
-pub loop-at-smaller : goal.loop-at-smaller
-loop-at-smaller c =
-    let below = left_here c.loop-at.invariant.1 (omega (arith, c.requires.0)) in
-    omega (arith, below)
-
-pub loop-at-preserved : goal.loop-at-preserved
-loop-at-preserved c =
-    let below = left_here c.loop-at.invariant.1 (omega (arith, c.requires.0)) in
-    let room = inside-part c.args.phase c.args.part.now c.args.from (total (places_of c.args.kind)) c.requires.0 c.requires.1 in
-    let number = to_z-of_z {w = w64} (record { sfits = c.number_of.type_inv }) ∙ c.number_of.ensures in
-    let more = read_on c.loop-at.invariant.1 c.widths_of-widths.ensures c.row_of-row.ensures below room c.field-x.ensures number
-    c.mark_bit-minus.ensures in
-    (omega (arith, below), more)
+pub loop-i-preserved : goal.loop-i-preserved
+loop-i-preserved c =
+    let g = c.loop-i.invariant in
+    let d = c.places_of-place-items.ensures in
+    let h = c.loop-i-test.true in
+    let room = inside-part c.args.part.phase c.args.part.bytes.now c.requires.0 in
+    let number = to_z-of_z {w = w64} (record { sfits = c.number.type_inv }) ∙ c.number.ensures in
+    read_on g d h room c.field-word.ensures number c.mark_bit-minus.ensures
 
 pub returns : goal.returns
-returns c = read_all c.loop-at.invariant.1 c.loop-at.invariant.0 (omega (arith, c.requires.0))
+returns c = read_all c.loop-i.invariant c.places_of-place-items.ensures (omega arith)

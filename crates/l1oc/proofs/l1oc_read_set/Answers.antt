@@ -1,11 +1,10 @@
--- `l1oc::l1oc_read_set`: what reading a set promises, with its answer's number and value. Assumes nothing.
-use Rattle.l1oc.proofs.Codes.{set_reads}
+-- `l1oc::l1oc_read_set`: the promise of reading a set, of the phase that the number names. Assumes nothing.
+use mathlib.Core.Path.{ap, ◌∙◌}
+use Prim.Native.Nat.{ℕ}
 use Rattle.l1oc.proofs.l1oc_read_set.Goals as goal
 
-pub returns : goal.returns
-returns c =
-    let a = c.args in
-    let e = c.answer_code-code.ensures in
-    let h = set_reads c.phase_of.ensures a.bytes.now a.count a.place _ c.answer_code-code.result
-    c.read-found.ensures (e.0, e.1) in
-    record { answered = h.0; numbered = h.1.0; set_read_promise = h.1.1.0; set_writes_back = h.1.1.1 }
+pub returns-clause-numbered : goal.returns-clause-numbered
+returns-clause-numbered c =
+    let lines = c.read.ensures.numbered in
+    rw (← c.phase_of.ensures)
+    (c.parts-number.ensures.0 ∙ ap (λ (x : ℕ × ℕ). x.0) lines, c.parts-number.ensures.1 ∙ ap (λ (x : ℕ × ℕ). x.1) lines)

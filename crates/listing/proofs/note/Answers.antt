@@ -2,8 +2,8 @@
 use borrow.Author.Tests.{lt-ltb, le-ltb}
 use Rattle.listing.proofs.note.Goals as goal
 
-pub returns-then-index-room : goal.returns-then-index-room
-returns-then-index-room c = simp (lt-ltb _ _ c.if-index-room.true)
+pub returns-then-index-list : goal.returns-then-index-list
+returns-then-index-list c = simp (lt-ltb _ _ c.if-index-list.true)
 
-pub returns-else-index-room : goal.returns-else-index-room
-returns-else-index-room c = simp (le-ltb _ _ c.if-index-room.false)
+pub returns-else-index-list : goal.returns-else-index-list
+returns-else-index-list c = simp (le-ltb _ _ c.if-index-list.false)

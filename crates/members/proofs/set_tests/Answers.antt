@@ -1,12 +1,21 @@
 -- `members::set_tests`: 12, 13, 14 in their order. Assumes nothing.
-use mathlib.Core.Path.{ap₂, ◌∙◌}
+use borrow.Author.Rules.{rules}
 use Rattle.format.specs.Sets.{set_tests}
-use Rattle.format.specs.Tests.{◌then◌}
+use Rattle.format.specs.Tests.{◌then◌, when}
 use Rattle.members.proofs.set_tests.Goals as goal
 
+pub returns-then-s-ne10 : goal.returns-then-s-ne10
+unfolding set_tests ◌then◌ when
+returns-then-s-ne10 c = search rules
+
+pub returns-then-s : goal.returns-then-s
+unfolding set_tests ◌then◌ when
+returns-then-s c = search rules
+
+pub returns-then-not-follows : goal.returns-then-not-follows
+unfolding set_tests ◌then◌ when
+returns-then-not-follows c = search rules
+
 pub returns : goal.returns
-unfolding set_tests
-returns c =
-    c.first-2.ensures
-    ∙ ap₂ ◌then◌ c.types_test-types.ensures
-    (c.first.ensures ∙ ap₂ ◌then◌ c.satellites_test-satellites.ensures c.times_test-times.ensures)
+unfolding set_tests ◌then◌ when
+returns c = search rules

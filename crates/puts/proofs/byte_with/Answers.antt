@@ -8,7 +8,7 @@ pub overflow_cast-result : goal.overflow_cast-result
 overflow_cast-result c =
     let a = c.args in
     let h : a.b < 256 = search rules in
-    let is = the_byte_with a.b a.skip a.n a.c c.requires.0 c.requires.1 h _ _ c.wide-x.ensures.0 c.low.ensures in
+    let is = the_byte_with a.b a.skip a.n a.c c.requires.0 c.requires.1 h _ _ c.from-x.ensures c.low.ensures in
     record { fits = rw is (byte_lt a.b a.skip a.n a.c c.requires.0 c.requires.1 h) }
 
 pub returns : goal.returns
@@ -16,4 +16,4 @@ returns c =
     let a = c.args in
     let h : a.b < 256 = search rules in
     byte_bits a.b a.skip a.n a.c c.requires.0 c.requires.1 h _
-    (the_byte_with a.b a.skip a.n a.c c.requires.0 c.requires.1 h _ _ c.wide-x.ensures.0 c.low.ensures)
+    (the_byte_with a.b a.skip a.n a.c c.requires.0 c.requires.1 h _ _ c.from-x.ensures c.low.ensures)

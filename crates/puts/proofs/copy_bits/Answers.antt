@@ -1,56 +1,55 @@
--- `puts::copy_bits`: the loop has put the first `done` bits of the run. Assumes nothing.
-use mathlib.Core.List.{List}
+-- `puts::copy_bits`: the loop puts the run piece by piece. Assumes nothing.
+use mathlib.Core.Path.{◌≡◌}
 use mathlib.Core.Bool.{Bool}
-use mathlib.Core.Path.{◌≡◌, sym, ap, ◌∙◌}
-use Prim.Native.Nat.{◌+◌, ◌*◌}
+use mathlib.Core.List.{List}
+use Prim.Native.Nat.{◌+◌, ◌≤◌}
 use native.Mathlib.Omega.{arith}
 use lib.ListN.{length}
-use borrow.Author.Rules.{rules}
-use Rattle.bits.specs.Bits.{bits, unpack, true_bits, cut, put}
-use Rattle.bits.proofs.Numbers.{number-cut-lt, bits_back}
-use Rattle.bits.proofs.Lists.{length-cut, cut-cut}
+use Rattle.bits.specs.Bits.{unpack, true_bits, cut}
+use Rattle.bits.proofs.Lists.{length-cut}
+use Rattle.bits.proofs.Numbers.{number-cut-lt}
 use Rattle.bits.proofs.Bytes.{length-unpack}
 use Rattle.bits.proofs.Phases.{length_true}
-use Rattle.puts.proofs.Writing.{put_first, put_more, put_last}
+use Rattle.puts.proofs.Writing.{put_first, put_next, put_last}
 use Rattle.puts.proofs.copy_bits.Goals as goal
 
 pub loop-done-init : goal.loop-done-init
-loop-done-init c = (search rules, search rules, put_first _ _ _)
+loop-done-init c = (omega arith, put_first _ _ _)
 
 pub put_field-requires : goal.put_field-requires
 put_field-requires c =
-    let source : List Bool = true_bits c.args.phase c.args.src.now in
-    let source-length : length source ≡ 8 * length c.args.src.now = length_true c.args.phase c.args.src.now in
-    let ls = source-length in
-    (omega arith, rw c.field-v.ensures (number-cut-lt _ _ _ (omega arith)), omega arith, omega arith)
+    let a = c.args in
+    let source : List Bool = true_bits a.src.phase a.src.bytes.now in
+    let k = c.min-k.ensures in
+    let inside : a.from + c.loop-done.done + c.min-k.result ≤ length source = omega (arith, length_true a.src.phase a.src.bytes.now, k) in
+    (omega (arith, k), rw c.field.ensures (number-cut-lt _ _ source inside), omega (arith, k), omega (arith, k))
 
 pub loop-done-preserved : goal.loop-done-preserved
 loop-done-preserved c =
-    let source : List Bool = true_bits c.args.phase c.args.src.now in
-    let old : List Bool = unpack c.args.dst.now in
-    let run : List Bool = cut c.args.from c.args.n source in
-    let source-length : length source ≡ 8 * length c.args.src.now = length_true c.args.phase c.args.src.now in
-    let old-length : length old ≡ 8 * length c.args.dst.now = length-unpack c.args.dst.now in
-    let run_length : length run ≡ c.args.n = length-cut c.args.from c.args.n source (omega (arith, source-length)) in
-    let piece_is : bits c.least-k.result c.field-v.result ≡ cut c.loop-done.done c.least-k.result run =
-    let place = c.args.from + c.loop-done.done in
-    ap (bits c.least-k.result) c.field-v.ensures
-    ∙ bits_back c.least-k.result (cut place c.least-k.result source)
-    (length-cut place c.least-k.result source (omega (arith, source-length)))
-    ∙ sym (cut-cut c.loop-done.done c.least-k.result c.args.from c.args.n source (omega arith)) in (
+    let a = c.args in
+    let k = c.min-k.ensures in (
       omega arith,
-      search rules,
-      put_more c.args.to c.loop-done.done c.least-k.result (c.loop-done.done + c.least-k.result) (c.args.to + c.loop-done.done) run old
-          (unpack c.loop-done.dst) _ (omega arith) (omega arith)
-          (omega (arith, run_length)) (omega (arith, old-length)) c.loop-done.invariant.2
-          (c.put_field.ensures ∙ ap (λ (w : List Bool). put (c.args.to + c.loop-done.done) w (unpack c.loop-done.dst)) piece_is),
+      put_next a.src.phase a.src.bytes.now a.to a.from a.n c.loop-done.done c.min-k.result (c.loop-done.done + 57) _ (unpack a.dst.now)
+          _ _ (omega (arith, k)) (omega arith) (omega arith) (omega (arith, length-unpack a.dst.now)) c.field.ensures
+          c.loop-done.invariant.1 c.put_field.ensures,
     )
 
 pub returns : goal.returns
 returns c =
-    let source : List Bool = true_bits c.args.phase c.args.src.now in
-    let old : List Bool = unpack c.args.dst.now in
-    let run : List Bool = cut c.args.from c.args.n source in
-    let source-length : length source ≡ 8 * length c.args.src.now = length_true c.args.phase c.args.src.now in
-    let run_length : length run ≡ c.args.n = length-cut c.args.from c.args.n source (omega (arith, source-length)) in
-    put_last c.args.to c.loop-done.done run old _ (omega (arith, run_length)) c.loop-done.invariant.2
+    let a = c.args in
+    let source : List Bool = true_bits a.src.phase a.src.bytes.now in
+    let long : length (cut a.from a.n source) ≡ a.n =
+    length-cut a.from a.n source (omega (arith, length_true a.src.phase a.src.bytes.now)) in
+    put_last a.to c.loop-done.done _ _ _ (omega (arith, long)) c.loop-done.invariant.1
+
+pub returns-2 : goal.returns-2
+returns-2 c =
+    let a = c.args in
+    let source : List Bool = true_bits a.src.phase a.src.bytes.now in
+    let long : length (cut a.from a.n source) ≡ a.n =
+    length-cut a.from a.n source (omega (arith, length_true a.src.phase a.src.bytes.now)) in
+    let k = c.min-k.ensures in
+    put_last a.to a.n _ _ _ (omega (arith, long))
+    (put_next a.src.phase a.src.bytes.now a.to a.from a.n c.loop-done.done c.min-k.result a.n _ (unpack a.dst.now)
+    _ _ (omega (arith, k)) (omega arith) (omega arith) (omega (arith, length-unpack a.dst.now)) c.field.ensures
+    c.loop-done.invariant.1 c.put_field.ensures)

@@ -2,7 +2,7 @@
 use mathlib.Core.List.{List, ◌++◌}
 use mathlib.Core.Bool.{Bool}
 use mathlib.Core.Path.{◌≡◌, ap, ◌∙◌}
-use Prim.Native.Nat.{ℕ, ◌-◌, ◌*◌, ◌%◌}
+use Prim.Native.Nat.{ℕ, ◌-◌, ◌*◌}
 use native.Mathlib.Omega.{arith}
 use lib.Pow.{pow_pos}
 use lib.ListN.{length}
@@ -20,13 +20,13 @@ put_field-requires c = (search rules, pow_pos _, search rules, search rules)
 pub returns : goal.returns
 unfolding filled
 returns c =
-    let run : List Bool = cut c.args.from c.args.n (true_bits c.args.phase c.args.src.now) in
+    let run : List Bool = cut c.args.from c.args.n (true_bits c.args.src.phase c.args.src.bytes.now) in
     let run_length : length run ≡ c.args.n =
     let a = c.args in
-    length-cut a.from a.n (true_bits a.phase a.src.now) (omega (arith, length_true a.phase a.src.now)) in
-    let rest : ℕ = (8 - c.args.n % 8) % 8 in
+    length-cut a.from a.n (true_bits a.src.phase a.src.bytes.now) (omega (arith, length_true a.src.phase a.src.bytes.now)) in
+    let rest : ℕ = c.next_multiple_of.result - c.args.n in
     let run-filled : run ++ bits rest 0 ≡ filled run =
-    let fill : rest ≡ 8 * bytes_for (length run) - length run = rw run_length (omega arith) in
+    let fill : rest ≡ 8 * bytes_for (length run) - length run = rw run_length (omega (arith, c.next_multiple_of.ensures)) in
     ap (λ (l : List Bool). run ++ l) (bits-zero rest ∙ ap zeros fill) in
     let put-once : unpack c.put_field.new.part ≡ put 0 (filled run) (unpack c.args.dst.now) =
     let n = c.args.n in

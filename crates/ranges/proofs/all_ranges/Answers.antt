@@ -1,15 +1,18 @@
--- `ranges::all_ranges`: each limit is a turn of the test, from the last to the first. Assumes nothing.
-use Rattle.ranges.proofs.Laws.{ranges_limit}
+-- `ranges::all_ranges`: each limit is a turn of the test. Assumes nothing.
+use mathlib.Core.Path.{◌∙◌}
+use Rattle.ranges.proofs.Laws.{ranges_first, ranges_next}
 use Rattle.ranges.proofs.all_ranges.Goals as goal
 
 pub returns : goal.returns
 returns c =
-    ranges_limit _ _ _ _ _ _ _ _ c.limit.ensures
-    (ranges_limit _ _ _ _ _ _ _ _ c.limit-from2.ensures
-    (ranges_limit _ _ _ _ _ _ _ _ c.limit-from3.ensures
-    (ranges_limit _ _ _ _ _ _ _ _ c.limit-from4.ensures
-    (ranges_limit _ _ _ _ _ _ _ _ c.limit-from5.ensures
-    (ranges_limit _ _ _ _ _ _ _ _ c.limit-from6.ensures
-    (ranges_limit _ _ _ _ _ _ _ _ c.limit-from7.ensures
-    (ranges_limit _ _ _ _ _ _ _ _ c.limit-from8.ensures
-    (ranges_limit _ _ _ _ _ _ _ _ c.limit-from9.ensures c.number_ranges-from10.ensures))))))))
+    c.and-9.ensures
+    ∙ ranges_next _ _ _ _ _ _ _ _ c.within-9.ensures _ _
+    (ranges_next _ _ _ _ _ _ _ _ c.within-8.ensures _ _
+    (ranges_next _ _ _ _ _ _ _ _ c.within-7.ensures _ _
+    (ranges_next _ _ _ _ _ _ _ _ c.within-6.ensures _ _
+    (ranges_next _ _ _ _ _ _ _ _ c.within-5.ensures _ _
+    (ranges_next _ _ _ _ _ _ _ _ c.within-4.ensures _ _
+    (ranges_next _ _ _ _ _ _ _ _ c.within-3.ensures _ _
+    (ranges_next _ _ _ _ _ _ _ _ c.within-2.ensures _ _
+    (ranges_first _ _ _ _ _ _ _ _ c.within.ensures) c.and.ensures) c.and-2.ensures) c.and-3.ensures) c.and-4.ensures) c.and-5.ensures)
+    c.and-6.ensures) c.and-7.ensures) c.and-8.ensures _ c.number_ranges.ensures

@@ -6,11 +6,12 @@ use mir.Facts.{to_z-of_z}
 use mir.Syntax.{w64}
 use Rattle.format.specs.Tests.{◌then◌}
 use Rattle.format.specs.Records.{field_tests}
+use Rattle.format.proofs.Order.{and_then}
 use Rattle.ranges.proofs.field_tests.Goals as goal
 
 pub returns : goal.returns
 unfolding field_tests
 returns c =
-    let numbers = c.args.r.numbers in
+    let numbers = c.args.r.now.numbers in
     let v = to_z-of_z {w = w64} {z = get_or numbers 0 (pos 0)} (record { sfits = c.orbit_test-arg-1.given }) in
-    c.first.ensures ∙ ap₂ ◌then◌ c.all_ranges-ranges.ensures (rw v at c.orbit_test-orbit.ensures)
+    c.and.ensures ∙ and_then _ _ ∙ ap₂ ◌then◌ c.all_ranges.ensures (rw v at c.orbit_test.ensures)

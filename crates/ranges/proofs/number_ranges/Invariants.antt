@@ -1,15 +1,10 @@
 -- `ranges::number_ranges`: the places from i on answer what all answer. Assumes nothing.
 use mathlib.Core.Path.{◌≡◌}
-use Prim.Native.Nat.{◌+◌, ◌-◌, ◌≤◌}
+use Prim.Native.Nat.{◌+◌}
 use lib.ListN.{drop}
 use Rattle.format.specs.Records.{ranges}
-use Rattle.format.specs.Types.{places, places_of}
+use Rattle.format.specs.Types.{places_of}
 use Rattle.ranges.proofs.number_ranges.Given as goal
 
 abbrev pub invariant-loop-i : goal.invariant-loop-i
-invariant-loop-i l =
-    (l.i ≤ places) × (ranges (drop l.i (places_of l.kind)) (drop l.i l.numbers) (10 + l.i) ≡ ranges (places_of l.kind) l.numbers 10)
-
-abbrev pub decreases-loop-i : goal.decreases-loop-i
-decreases-loop-i l =
-    places - l.i
+invariant-loop-i l = ranges (drop l.i (places_of l.r.kind)) (drop l.i l.r.numbers) (10 + l.i) ≡ ranges (places_of l.r.kind) l.r.numbers 10

@@ -8,22 +8,24 @@ use borrow.Author.Rules.{rules}
 use Rattle.bits.specs.Bits.{unpack}
 use Rattle.bits.specs.Signed.{all_zero}
 use Rattle.format.proofs.Information.{raw_few}
+use Rattle.format.proofs.Order.{and_then, then_assoc}
 use Rattle.format.specs.declared.Refusal.TheVariants.{NotZero}
 use Rattle.format.specs.Tests.{when, ◌then◌}
 use Rattle.format.specs.Records.{raw_bytes, unused, overfilled, record_tests}
 use Rattle.format.specs.Types.{places_of}
 use Rattle.records.proofs.record_tests.Goals as goal
 
-pub zero_from-requires : goal.zero_from-requires
-zero_from-requires c =
-    let long : length c.args.r.raw ≡ raw_bytes = search rules in
-    omega (arith, long, raw_few c.args.r.kind, c.raw_count-count.ensures)
+pub zero_from-clear-requires : goal.zero_from-clear-requires
+zero_from-clear-requires c =
+    let long : length c.args.r.now.raw ≡ raw_bytes = search rules in
+    omega (arith, long, raw_few c.args.r.now.kind, c.raw_count.ensures)
 
 pub returns : goal.returns
 unfolding record_tests overfilled
 returns c =
-    let zeros : c.zero_test-zeros.result ≡ when (unused (places_of c.args.r.kind) c.args.r.numbers || overfilled c.args.r) NotZero =
-    let clear = c.zero_from.ensures ∙ ap (λ (n : ℕ). all_zero (drop n (unpack c.args.r.raw))) c.raw_count-count.ensures in
-    c.zero_test-zeros.ensures ∙ ap₂ (λ (a b : Bool). when (a || not b) NotZero) c.unused.ensures clear in
-    c.first-2.ensures
-    ∙ ap₂ ◌then◌ c.field_tests-fields.ensures (c.first.ensures ∙ ap₂ ◌then◌ zeros c.marks_test-marks.ensures)
+    let r = c.args.r.now in
+    let zeros : c.zero_test.result ≡ when (unused (places_of r.kind) r.numbers || overfilled r) NotZero =
+    let clear = c.zero_from-clear.ensures ∙ ap (λ (n : ℕ). all_zero (drop n (unpack r.raw))) c.raw_count.ensures in
+    c.zero_test.ensures ∙ ap₂ (λ (a b : Bool). when (a || not b) NotZero) c.unused.ensures clear in
+    c.and-2.ensures ∙ and_then _ _
+    ∙ ap₂ ◌then◌ (c.and.ensures ∙ and_then _ _ ∙ ap₂ ◌then◌ c.field_tests.ensures zeros) c.marks_test.ensures ∙ then_assoc _ _ _

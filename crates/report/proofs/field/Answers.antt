@@ -1,12 +1,8 @@
 -- `report::field`: the bits of the bytes are the string's. Assumes nothing.
-use native.Mathlib.Omega.{arith}
 use borrow.Author.Rules.{rules}
 use Rattle.format.specs.Strings.{string_bits}
 use Rattle.report.proofs.Printing.{field_fits}
 use Rattle.report.proofs.field.Goals as goal
-
-pub field-requires : goal.field-requires
-field-requires c = let p = c.requires in (omega arith, omega (arith, p.0.last))
 
 pub overflow_cast-result : goal.overflow_cast-result
 overflow_cast-result c =

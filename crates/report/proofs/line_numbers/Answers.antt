@@ -4,8 +4,9 @@ use Rattle.bits.proofs.Phases.{part_covers}
 use Rattle.report.proofs.Printing.{line_is}
 use Rattle.report.proofs.line_numbers.Goals as goal
 
-pub service_numbers-service-requires : goal.service_numbers-service-requires
-service_numbers-service-requires c = part_covers _ _ 50 (omega arith)
+pub service_numbers-requires : goal.service_numbers-requires
+service_numbers-requires c = rw c.covering.ensures.0 (part_covers _ _ 50 (omega arith))
 
 pub returns : goal.returns
-returns c = line_is _ _ (omega arith) c.service_numbers-service.ensures c.result_at-result.ensures
+returns c =
+    line_is _ _ (omega arith) (rw c.covering.ensures.0 at c.service_numbers.ensures) c.result_at-result.ensures

@@ -2,4 +2,4 @@
 use Rattle.report.proofs.put_line.Goals as goal
 
 pub returns : goal.returns
-returns c = rw c.line_numbers-numbers.ensures at c.put_row.ensures
+returns c = rw c.line_numbers.ensures at c.row.ensures

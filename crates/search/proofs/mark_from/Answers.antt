@@ -1,31 +1,25 @@
 -- `search::mark_from`: no place from `from` to below p has the mark. Assumes nothing.
 use native.Mathlib.Omega.{arith}
-use borrow.Author.Rules.{rules}
-use Rattle.bits.specs.Bits.{recorded}
 use Rattle.search.proofs.Searching.{free_none, free_more, next_here, next-end}
 use Rattle.search.proofs.mark_from.Goals as goal
 
 pub loop-p-init : goal.loop-p-init
-loop-p-init c =
-    let a = c.args in
-    (search rules, search rules, free_none (recorded a.phase a.rec.now a.count) a.from)
+loop-p-init c = free_none _ c.args.from
 
 pub returns-then-field-eq-MARK : goal.returns-then-field-eq-MARK
 returns-then-field-eq-MARK c =
-    let l = c.loop-p in
-    next_here c.args.phase c.args.rec.now c.args.count c.requires.1 c.args.from l.p _ l.invariant.2 l.invariant.0
-    (omega arith) c.field.ensures c.if-field-eq-MARK.true
+    let a = c.args in
+    next_here a.rec.phase a.rec.bytes.now a.count c.requires.1 a.from c.loop-p.p _ c.loop-p.invariant (omega arith)
+    (omega (arith, c.saturating_sub-p-end.ensures)) c.field.ensures c.if-field-eq-MARK.true
 
 pub loop-p-preserved : goal.loop-p-preserved
 loop-p-preserved c =
-    let l = c.loop-p in (
-      omega arith,
-      omega arith,
-      free_more c.args.phase c.args.rec.now c.args.count c.requires.1 c.args.from l.p _ l.invariant.2
-          c.field.ensures c.if-field-eq-MARK.false,
-    )
+    let a = c.args in
+    free_more a.rec.phase a.rec.bytes.now a.count c.requires.1 a.from c.loop-p.p _ c.loop-p.invariant c.field.ensures
+    c.if-field-eq-MARK.false
 
 pub returns : goal.returns
 returns c =
-    let l = c.loop-p in
-    next-end c.args.phase c.args.rec.now c.args.count c.requires.1 c.args.from l.p l.invariant.2 c.requires.2 (omega arith)
+    let a = c.args in
+    next-end a.rec.phase a.rec.bytes.now a.count c.requires.1 a.from c.loop-p.p c.loop-p.invariant c.requires.2
+    (omega (arith, c.saturating_sub-p-end.ensures))

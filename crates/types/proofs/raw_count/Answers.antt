@@ -1,49 +1,29 @@
--- `types::raw_count`: computed for each type that is named. Assumes nothing.
-use native.Mathlib.Omega.{arith}
-use mathlib.Core.Path.{refl}
-use borrow.Author.Tests.{ne_eqb}
+-- `types::raw_count`: computed for each type that is named, and for the others. Assumes nothing.
+use borrow.Author.Rules.{rules}
 use Rattle.format.specs.Strings.{length_of, generator_of}
 use Rattle.format.specs.Types.{places_of, raw_count}
 use Rattle.types.proofs.raw_count.Goals as goal
 
 pub returns-in-1 : goal.returns-in-1
-unfolding places_of raw_count length_of generator_of
-returns-in-1 c = rw c.in-1.is refl
+unfolding raw_count places_of length_of generator_of
+returns-in-1 c = search rules
 
 pub returns-in-2 : goal.returns-in-2
-unfolding places_of raw_count length_of generator_of
-returns-in-2 c = rw c.in-2.is refl
-
-pub returns-in-10 : goal.returns-in-10
-unfolding places_of raw_count length_of generator_of
-returns-in-10 c = rw c.in-10.is refl
-
-pub returns-in-11 : goal.returns-in-11
-unfolding places_of raw_count length_of generator_of
-returns-in-11 c = rw c.in-11.is refl
-
-pub returns-in-12 : goal.returns-in-12
-unfolding places_of raw_count length_of generator_of
-returns-in-12 c = rw c.in-12.is refl
-
-pub returns-in-20 : goal.returns-in-20
-unfolding places_of raw_count length_of generator_of
-returns-in-20 c = rw c.in-20.is refl
-
-pub returns-in-25 : goal.returns-in-25
-unfolding places_of raw_count length_of generator_of
-returns-in-25 c = rw c.in-25.is refl
+unfolding raw_count places_of length_of generator_of
+returns-in-2 c = search rules
 
 pub returns-in_default : goal.returns-in_default
-unfolding places_of raw_count length_of generator_of
-returns-in_default c =
-    let k = c.args.kind in
-    simp (
-      ne_eqb k 1 (λ e. omega arith),
-      ne_eqb k 2 (λ e. omega arith),
-      ne_eqb k 10 (λ e. omega arith),
-      ne_eqb k 11 (λ e. omega arith),
-      ne_eqb k 12 (λ e. omega arith),
-      ne_eqb k 20 (λ e. omega arith),
-      ne_eqb k 25 (λ e. omega arith),
-    )
+unfolding raw_count places_of length_of generator_of
+returns-in_default c = search rules
+
+pub returns-in_default-2 : goal.returns-in_default-2
+unfolding raw_count places_of length_of generator_of
+returns-in_default-2 c = search rules
+
+pub returns-in-10 : goal.returns-in-10
+unfolding raw_count places_of length_of generator_of
+returns-in-10 c = search rules
+
+pub returns-in-10-2 : goal.returns-in-10-2
+unfolding raw_count places_of length_of generator_of
+returns-in-10-2 c = search rules

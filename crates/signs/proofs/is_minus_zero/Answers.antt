@@ -1,7 +1,0 @@
--- `signs::is_minus_zero`: minus zero is the one field with this number. Assumes nothing.
-use native.Mathlib.Omega.{arith}
-use Rattle.signs.proofs.Signs.{minus_zero_is}
-use Rattle.signs.proofs.is_minus_zero.Goals as goal
-
-pub returns : goal.returns
-returns c = minus_zero_is _ _ (omega arith) c.requires.1 c.requires.2
