@@ -27,10 +27,6 @@ module _ (bytes count : ℕ) where
 
 -- ---- 3 after 1 and 2
 module _ (bytes count place : ℕ) {counted : Answer} (e : counted ≡ count_tests bytes count) where
-  pub place_beyond : {a : Answer} → a ≡ (counted then Err (BeyondCount place)) → count < place → a ≡ place_tests bytes count place
-  unfolding place_tests
-  place_beyond f h = rw (f, e, ← when_yes (BeyondCount place) (lt-ltb count place h))
-
   pub place-within : place ≤ count → counted ≡ place_tests bytes count place
   unfolding place_tests
   place-within h = rw (e, ← when_no (BeyondCount place) (le-ltb count place h), then_passed)

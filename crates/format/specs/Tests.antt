@@ -36,6 +36,11 @@ infixr 5 ◌then◌
 unfoldable pub ◌then◌ : Answer → Answer → Answer
 a then b = cond (is_passed a) b a
 
+-- What is given, or what stands for it beside a refusal.
+abbrev pub given_or : {A : Type 0} → A → Result A Refusal → A
+given_or other (Ok x) = x
+given_or other (Err r) = other
+
 -- What a function answers that gives something where its tests pass.
 abbrev pub giving : {A : Type 0} → Answer → A → Result A Refusal
 giving (Ok u) x = Ok x

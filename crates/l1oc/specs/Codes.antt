@@ -1,5 +1,5 @@
 -- The numbers of the C interface that name a phase, and its structs, from the answers and their numbers and values. Assumes nothing.
-use Rattle.std.specs.Prelude.{false, ℕ, zero, suc, Float, pos, Ok, Err, Result}
+use Rattle.std.specs.Prelude.{false, ℕ, zero, suc, Float, pos, Result}
 use Rattle.std.specs.Float.{fin}
 use Rattle.bits.specs.declared.Phase.{Phase}
 use Rattle.bits.specs.declared.Phase.TheVariants.{Straight, Inverted}
@@ -8,6 +8,7 @@ use Rattle.format.specs.declared.Refusal.{Refusal}
 use Rattle.format.specs.declared.Set.{Set}
 use Rattle.format.specs.Answers.{answer_code}
 use Rattle.format.specs.Records.{blank}
+use Rattle.format.specs.Tests.{given_or}
 use Rattle.format.specs.Sets.{blank_set}
 use Rattle.answers.specs.declared.Code.{Code}
 use Rattle.l1oc.specs.declared.ReadCode.{ReadCode}
@@ -22,11 +23,6 @@ phase_of (suc n) = Inverted
 -- A number and a value.
 abbrev pub coded : ℕ × ℕ → Code
 coded p = record { number = p.0; value = p.1 }
-
--- What is given, or what stands for it beside a refusal.
-abbrev pub given_or : {T : Type 0} → T → Result T Refusal → T
-given_or other (Ok x) = x
-given_or other (Err r) = other
 
 -- The number and the value of an answer, and what it gives: a record that is read, a set, a value. Beside a refusal they are blank, or
 -- 0.0.

@@ -45,7 +45,7 @@ pub struct ValueCode {
     pub scaled: f64,
 }
 
-// Number and value of an answer, and what it gives; a blank one beside a refusal.
+// Number and value of an answer, and what it gives, or what `Default` has beside a refusal.
 fn parts<T: Default + Copy>(answer: Result<T, Refusal>) -> (Code, T)
     ensures { (result.0.number ≡ (answer_code answer).0) × (result.0.value ≡ (answer_code answer).1)
         × ResultUnwrapsOrElse answer T.is_default result.1 }

@@ -7,7 +7,7 @@ ghost use Rattle.text.specs.Writing.{HasRoom, Adds};
 
 use itoa::write_digits;
 
-// The most bytes of a number, a u32 has ten digits, and the byte after it.
+// The most bytes of a number and the byte after it; a u32 has at most ten digits.
 pub const NUMBER: usize = 10 + 1;
 
 // How many numbers a row of the program `list` has.

@@ -11,4 +11,4 @@ unfolding covered_bytes cut
 returns c =
     let q = c.args in
     let size : c.div_ceil.result - q.place / 8 ≡ bytes_for (q.place % 8 + q.n) = omega (arith, c.div_ceil.ensures) in
-    (c.part.ensures.0 ∙ ap (λ (k : ℕ). take k (drop (q.place / 8) q.self.bytes.now)) size, c.part.ensures.1)
+    (c.slice.ensures.0 ∙ ap (λ (k : ℕ). take k (drop (q.place / 8) q.self.bytes.now)) size, c.slice.ensures.1)
