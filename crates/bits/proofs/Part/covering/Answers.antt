@@ -10,5 +10,6 @@ pub returns : goal.returns
 unfolding covered_bytes cut
 returns c =
     let q = c.args in
-    let size : c.div_ceil.result - q.place / 8 ≡ bytes_for (q.place % 8 + q.n) = omega (arith, c.div_ceil.ensures) in
-    (c.slice.ensures.0 ∙ ap (λ (k : ℕ). take k (drop (q.place / 8) q.self.bytes.now)) size, c.slice.ensures.1)
+    let first = q.place / 8 in
+    let size : first + c.div_ceil.result - first ≡ bytes_for (q.place % 8 + q.n) = omega (arith, c.div_ceil.ensures) in
+    (c.slice.ensures.0 ∙ ap (λ (k : ℕ). take k (drop first q.self.bytes.now)) size, c.slice.ensures.1)
