@@ -30,11 +30,11 @@ impl Signed {
     pub fn number(self) -> i64
         ensures { result ≡ signed_of (bits self.width self.field) }
     {
-        let magnitude = bits::low(self.field, self.width - 1) as i64;
-        if self.field >> (self.width - 1) == 0 {
-            return magnitude;
+        let minus_zero = 1 << (self.width - 1);
+        if self.field < minus_zero {
+            return self.field as i64;
         }
-        -magnitude
+        -((self.field - minus_zero) as i64)
     }
 
     // Whether the field is minus zero.
