@@ -3,9 +3,9 @@ use Rattle.std.specs.Prelude.{Ok, Err}
 use Rattle.format.specs.Tests.{Answer, when, ◌then◌}
 use Rattle.format.specs.declared.Refusal.{Refusal}
 use Rattle.format.proofs.Order.{passed_then, refused_then, cond_then, when_pass}
-use mathlib.Core.Path.{◌≡◌, refl, sym, ◌∙◌}
+use mathlib.Core.Path.{◌≡◌, refl, sym, ap, ◌∙◌}
 use mathlib.Core.Bool.{Bool, true, false, cond, not, ◌&&◌}
-use mathlib.Core.List.{List, [], ◌∷◌}
+use mathlib.Core.List.{List, [], ◌∷◌, ◌++◌}
 use Prim.Native.Nat.{ℕ, zero, suc, ◌+◌, ◌-◌, ◌^◌, ◌<◌}
 use native.Mathlib.Omega.{arith}
 use native.Mathlib.Numerals.{add-one}
@@ -21,22 +21,17 @@ use mir.Val.{SFits, of_z, to_z}
 use borrow.Author.Tests.{not-false, ne_eqb, le-leb, lt-leb, le-ltb, lt-ltb}
 use Rattle.std.specs.Ordering.{MatchOrdering, is_le, nat_cmp, int_cmp}
 use Rattle.std.specs.Cmp.{ranks}
-use Rattle.std.specs.Result.{result_and}
 use Rattle.std.specs.declared.cmp.Ordering.{Ordering}
 use Rattle.std.specs.declared.cmp.Ordering.TheVariants.{Less, Equal, Greater}
 use Rattle.format.proofs.Information.{length_information}
 use Rattle.format.specs.declared.Refusal.TheVariants.{OutOfRange}
 use Rattle.format.specs.Fields.{Field, unsigned, absent, in_range}
-use Rattle.format.specs.Records.{ranges, is_zero}
-use Rattle.format.specs.Types.{places, places_of}
+use Rattle.format.specs.declared.Record.{Record}
+use Rattle.format.specs.Records.{ranges, first_outside, numbers_of, is_zero}
+use Rattle.format.specs.Types.{places, service, places_of, fields_of}
 use Rattle.types.specs.declared.rows.Place.{Place}
 use Rattle.types.specs.Rows.{no_place, Describes}
 use Rattle.types.proofs.Table.{place_at, few_used, used_at, drop_used}
-
--- tests one after another
-and_assoc : (a b c : Answer) → result_and (result_and a b) c ≡ result_and a (result_and b c)
-and_assoc (Ok u) b c = refl
-and_assoc (Err r) b c = refl
 
 -- the machine's test of a number for zero
 pub zero_seen : (v : ℤ) → SFits w64 v → eqb (of_z w64 v) 0 ≡ is_zero v
@@ -46,7 +41,7 @@ zero_seen (negsuc n) f = let h : n < 2 ^ 63 = f.sfits in ne_eqb (2 ^ 64 - suc n)
 -- ---- the test of ranges
 
 -- how numbers are ordered, as the definitions say it
-nat_seen : (a b : ℕ) → is_le (nat_cmp a b) ≡ leb a b
+pub nat_seen : (a b : ℕ) → is_le (nat_cmp a b) ≡ leb a b
 nat_seen a b = at (nat_cmp a b) (ranks a b)
   where
     at : (o : Ordering) → MatchOrdering o (a < b) (a ≡ b) (b < a) → is_le o ≡ leb a b
@@ -85,26 +80,45 @@ module _ (field : ℕ) (a b : ℤ) {v : ℤ} (f : SFits w64 v) {x : Answer} (e :
   pub signed_passed : x ≡ Ok tt → (le_z a v && le_z v b) ≡ true
   signed_passed h = not-false _ (when_pass (not (le_z a v && le_z v b)) (OutOfRange field) (sym signed_within ∙ h))
 
--- Where the fields before number n have answered `a`, what the others answer is what all answer, `t`.
-abbrev pub Front : Answer → List Field → List ℤ → ℕ → Answer → Type 0
-Front a fs vs n t = (y : Answer) → y ≡ ranges fs vs n → result_and a y ≡ t
+-- an unsigned field and a number that is not negative, as the code finds the first field that is out of range
+pub outside_found : (w lo hi k v n later rest : ℕ) {found : ℕ} → found ≡ cond (is_le (nat_cmp lo v) && is_le (nat_cmp v hi)) later n
+    → later ≡ rest → found ≡ cond (in_range (unsigned w lo hi k) (pos v)) rest n
+unfolding in_range
+outside_found w lo hi k v n later rest e f = e ∙ rw (nat_seen lo v, nat_seen v hi, f) refl
 
-module _ (w lo hi k : ℕ) (fs : List Field) (v : ℕ) (vs : List ℤ) (n : ℕ) {x : Answer}
-    (e : x ≡ when (not (is_le (nat_cmp lo v) && is_le (nat_cmp v hi))) (OutOfRange n)) where
-  -- an unsigned field and a number that is not negative in front, as the code tests them
-  pub ranges_first : Front x fs vs (suc n) (ranges (unsigned w lo hi k ∷ fs) (pos v ∷ vs) n)
-  unfolding ranges in_range when
-  ranges_first y g = rw (e, nat_seen lo v, nat_seen v hi, g) (at (leb lo v && leb v hi) (ranges fs vs (suc n)))
-    where
-      at : (b : Bool) (z : Answer)
-          → result_and (cond {A = Answer} (not b) (Err (OutOfRange n)) (Ok (tt {0}))) z ≡ cond b z (Err (OutOfRange n))
-      at true z = refl
-      at false z = refl
+-- What fields answer before others that answer `y`, where the first of them that is out of range is number `found`, or none, 0.
+abbrev pub found_then : ℕ → Answer → Answer
+found_then found y = cond (eqb found 0) y (Err (OutOfRange found))
 
-  -- and after others
-  pub ranges_next : (a t : Answer) {b : Answer} → Front a (unsigned w lo hi k ∷ fs) (pos v ∷ vs) n t → b ≡ result_and a x
-      → Front b fs vs (suc n) t
-  ranges_next a t f g y h = rw (g, and_assoc a x y) (f _ (ranges_first y h))
+pub found_out : {found : ℕ} (y : Answer) → (found ≡ 0 → ⊥) → Err (OutOfRange found) ≡ found_then found y
+found_out {found} y h = rw (ne_eqb found 0 h) refl
+
+pub ranges_after : (fs gs : List Field) (vs ws : List ℤ) (n : ℕ) → length vs ≡ length fs
+    → found_then (first_outside fs (vs ++ ws) (suc n)) (ranges gs ws (suc n + length fs)) ≡ ranges (fs ++ gs) (vs ++ ws) (suc n)
+unfolding ranges first_outside
+ranges_after [] gs [] ws n h = let e : suc n + 0 ≡ suc n = omega arith in ap (ranges gs ws) e
+ranges_after [] gs (v ∷ vs) ws n h = absurd (omega arith)
+ranges_after (f ∷ fs) gs [] ws n h = absurd (omega arith)
+ranges_after (f ∷ fs) gs (v ∷ vs) ws n h =
+    let e : suc n + length (f ∷ fs) ≡ suc (suc n) + length fs = omega arith in
+    at (in_range f v) (ap (λ (m : ℕ). found_then (first_outside fs (vs ++ ws) (suc (suc n))) (ranges gs ws m)) e
+    ∙ ranges_after fs gs vs ws (suc n) (omega arith))
+  where
+    at : (b : Bool) → found_then (first_outside fs (vs ++ ws) (suc (suc n))) (ranges gs ws (suc n + length (f ∷ fs)))
+        ≡ ranges (fs ++ gs) (vs ++ ws) (suc (suc n))
+        → found_then (cond b (first_outside fs (vs ++ ws) (suc (suc n))) (suc n)) (ranges gs ws (suc n + length (f ∷ fs)))
+        ≡ cond b (ranges (fs ++ gs) (vs ++ ws) (suc (suc n))) (Err (OutOfRange (suc n)))
+    at true g = g
+    at false g = sym (found_out (ranges gs ws (suc n + length (f ∷ fs))) (λ e. omega arith))
+
+-- fields 1 to 9, then the others
+pub all_are : (r : Record) → found_then (first_outside service (numbers_of r) 1) (ranges (places_of r.kind) r.numbers 10)
+    ≡ ranges (fields_of r.kind) (numbers_of r) 1
+all_are r =
+    ranges_after service (places_of r.kind) (
+    pos r.kind ∷ pos r.satellite ∷ pos r.signal ∷ pos r.validity ∷ pos r.call ∷ pos r.attitude ∷ pos r.correction ∷ pos r.next
+    ∷ pos r.time ∷ []
+    ) r.numbers 0 refl
 
 -- places that a type does not use take any number
 ranges_absent : (m n : ℕ) (vs : List ℤ) → ranges (replicate m absent) vs n ≡ Ok tt
@@ -119,19 +133,20 @@ module _ {t : ℕ} {table : List Place} (d : Describes t table) (i : ℕ) (vs : 
   pub ranges-end : i ≡ length table → Ok tt ≡ ranges (drop i (places_of t)) (drop i vs) (10 + i)
   ranges-end e = rw (e, drop_used d, ranges_absent)
 
-  -- a turn of the code's loop: it tests the number at i by the table's range, x is what it finds
-  module _ (h : i < length table) (l : length vs ≡ places) (a : SFits w64 (get_or table i no_place).least)
-      (b : SFits w64 (get_or table i no_place).most) (e : SFits w64 (get_or vs i (pos 0))) where
-    abbrev seen : Bool
-    seen = among (as_read (get_or table i no_place).least) (as_read (get_or vs i (pos 0))) (as_read (get_or table i no_place).most)
-
-    in_range_lem : seen ≡ in_range (get_or (places_of t) i absent) (get_or vs i (pos 0))
+  module _ (h : i < length table) where
+    -- the number at a place that the type uses, tested by the table's range
+    pub in_range_lem : SFits w64 (get_or table i no_place).least → SFits w64 (get_or table i no_place).most
+        → SFits w64 (get_or vs i (pos 0))
+        → among (as_read (get_or table i no_place).least) (as_read (get_or vs i (pos 0))) (as_read (get_or table i no_place).most)
+        ≡ in_range (get_or (places_of t) i absent) (get_or vs i (pos 0))
     unfolding in_range
-    in_range_lem =
+    in_range_lem a b e =
         rw (to_z-of_z {w = w64} a, to_z-of_z {w = w64} b, to_z-of_z {w = w64} e, int_seen _ _, int_seen _ _, place_at d i)
         (rw (used_at d i h) refl)
 
-    module _ {x : Answer} (k : x ≡ when (not seen) (OutOfRange (10 + i))) where
+    -- a turn of the loop over the places: x is what the test at i finds
+    module _ (l : length vs ≡ places) {x : Answer}
+        (k : x ≡ when (not (in_range (get_or (places_of t) i absent) (get_or vs i (pos 0)))) (OutOfRange (10 + i))) where
       row_turn : ranges (drop i (places_of t)) (drop i vs) (10 + i)
           ≡ (x then ranges (drop (i + 1) (places_of t)) (drop (i + 1) vs) (10 + (i + 1)))
       unfolding ranges
@@ -140,7 +155,7 @@ module _ {t : ℕ} {table : List Place} (d : Describes t table) (i : ℕ) (vs : 
           let g : i < length (places_of t) = omega (arith, length_information t) in
           let m : i < length vs = omega arith in
           let o : 10 + (i + 1) ≡ suc (10 + i) = omega arith in
-          rw (drop-cons (places_of t) i absent, drop-cons vs i (pos 0), o, add-one i, k, in_range_lem) (cond_then _ _ _)
+          rw (drop-cons (places_of t) i absent, drop-cons vs i (pos 0), o, add-one i, k) (cond_then _ _ _)
 
       pub row-takes : x ≡ Ok tt
           → ranges (drop (i + 1) (places_of t)) (drop (i + 1) vs) (10 + (i + 1)) ≡ ranges (drop i (places_of t)) (drop i vs) (10 + i)

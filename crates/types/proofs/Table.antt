@@ -1,18 +1,19 @@
 -- Facts of every type's fields, computed; and what the code's table says at a place. Assumes nothing.
 use mathlib.Core.Path.{◌≡◌, refl, sym, ap, ◌∙◌}
-use mathlib.Core.Bool.{Bool, true, false, not, beq, false≢true}
+use mathlib.Core.Bool.{Bool, true, false, not, beq, false≢true, and-eq-true_iff}
 use mathlib.Core.List.{List, [], ◌∷◌, ◌++◌}
 use Prim.Native.Nat.{ℕ, zero, suc, ◌-◌, ◌<◌, ◌≤◌}
 use native.Mathlib.Omega.{arith}
-use borrow.Author.Tests.{leb-true, not-true}
-use lib.Dec.{eqb, leb}
+use borrow.Author.Tests.{ltb-true, leb-true, not-true}
+use lib.Dec.{eqb, leb, ltb}
 use lib.ListN.{length, length-map, drop, replicate, get_or, get_or-append, get_or-map}
 use lib.Seq.{drop-append_seam}
+use Rattle.std.specs.List.{list_all}
 use Rattle.format.specs.Fields.{Field, absent, width, is_absent, total}
 use Rattle.format.specs.Types.{typed, find, places, places_of}
-use Rattle.format.proofs.Information.{every, every_head, every_place, every_type}
+use Rattle.format.proofs.Information.{every, every_head, every_place, every_type, padded}
 use Rattle.types.specs.declared.rows.Place.{Place}
-use Rattle.types.specs.Rows.{place_of, no_place, Describes}
+use Rattle.types.specs.Rows.{place_of, no_place, Describes, narrow}
 
 -- ---- every type
 
@@ -83,6 +84,20 @@ module _ {kind : ℕ} {table : List Place} (d : Describes kind table) where
       ap (λ (n : ℕ). drop n (fs ++ replicate (places - length fs) absent)) k
       ∙ drop-append_seam fs (replicate (places - length fs) absent)
       ∙ ap (λ (n : ℕ). replicate (places - n) absent) (sym k)
+
+  -- a place whose range is narrower than its width is used
+  pub narrow_used : (k : ℕ) → k < length (narrow (places_of kind) 0) → get_or (narrow (places_of kind) 0) k 0 < length table
+  unfolding places_of
+  narrow_used k h =
+      let fs = find kind typed in
+      let all : list_all (λ i. ltb i (length fs)) (narrow (padded fs) 0) ≡ true =
+      every_type (λ t fs. list_all (λ i. ltb i (length fs)) (narrow (padded fs) 0)) refl (λ t. refl) kind in
+      rw length_used (all_at (length fs) (narrow (padded fs) 0) k all h)
+    where
+      all_at : (n : ℕ) (is : List ℕ) (k : ℕ) → list_all (λ i. ltb i n) is ≡ true → k < length is → get_or is k 0 < n
+      all_at n [] k e h = absurd (omega arith)
+      all_at n (i ∷ is) zero e h = ltb-true i n ((and-eq-true_iff (ltb i n) (list_all (λ i. ltb i n) is)).0 e).0
+      all_at n (i ∷ is) (suc k) e h = all_at n is k ((and-eq-true_iff (ltb i n) (list_all (λ i. ltb i n) is)).0 e).1 (omega arith)
 
   pub none_past : total (drop (length table) (places_of kind)) ≡ 0
   none_past = ap total drop_used ∙ total_absent (places - length table)

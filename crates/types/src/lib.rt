@@ -8,8 +8,8 @@ ghost use Rattle.bits.specs.Bits.{number, bits, unpack, true_bits, cut, Covers};
 ghost use Rattle.cyclic.specs.Poly.{Divides};
 ghost use Rattle.cyclic.specs.Register.{check};
 ghost use Rattle.format.specs.Strings.{length_of, generator_of, check_bits};
-ghost use Rattle.format.specs.Types.{raw_count};
-ghost use Rattle.types.specs.Rows.{Describes};
+ghost use Rattle.format.specs.Types.{raw_count, places_of};
+ghost use Rattle.types.specs.Rows.{Describes, narrow};
 
 use bits::Part;
 use cyclic::{Generator, generators};
@@ -73,8 +73,22 @@ pub fn places_of(kind: u8) -> &'static [Place]
     }
 }
 
+// The places of a type whose range is narrower than their width: no other number that is read can be out of its range.
+#[tactic(auto, unfolding(format::specs::Types::places_of))]
+pub fn narrow_of(kind: u8) -> &'static [usize]
+    ensures { result.now ≡ narrow (places_of kind) 0 }
+{
+    match kind {
+        10 => &[0, 1, 4, 5, 6],
+        20 => &[3, 8],
+        25 => &[0, 11, 12],
+        _ => &[],
+    }
+}
+
 // Whether the generator of a type divides the `long` true bits of a string of that type from the place `offset` on. The part is just the
 // bytes that the string covers. Each arm is compiled with the numbers of its generator.
+#[inline(always)]
 pub fn divides(part: Part, offset: usize, long: usize, kind: u8) -> bool
     requires { Covers part.bytes.now offset long × (long ≡ length_of kind) }
     ensures { (result ≡ true) ↔ Divides (generator_of kind) (cut offset long (true_bits part.entry.phase part.entry.bytes.now)) }

@@ -1,18 +1,20 @@
--- `ranges::all_ranges`: each limit is a turn of the test. Assumes nothing.
-use mathlib.Core.Path.{◌∙◌}
-use Rattle.ranges.proofs.Laws.{ranges_first, ranges_next}
+-- `ranges::all_ranges`: fields 1 to 9, then the others. Assumes nothing.
+use mathlib.Core.Path.{sym, ap, ◌∙◌}
+use Prim.Native.Nat.{ℕ}
+use Rattle.format.specs.Records.{ranges}
+use Rattle.format.specs.Types.{places_of}
+use Rattle.ranges.proofs.Laws.{found_then, found_out, all_are}
 use Rattle.ranges.proofs.all_ranges.Goals as goal
+
+pub returns-then-field-ne0 : goal.returns-then-field-ne0
+returns-then-field-ne0 c =
+    let r = c.args.r.now in
+    let others = ranges (places_of r.kind) r.numbers 10 in
+    found_out others c.if-field-ne0.true ∙ ap (λ (n : ℕ). found_then n others) c.service_outside-field.ensures ∙ all_are r
 
 pub returns : goal.returns
 returns c =
-    c.and-9.ensures
-    ∙ ranges_next _ _ _ _ _ _ _ _ c.within-9.ensures _ _
-    (ranges_next _ _ _ _ _ _ _ _ c.within-8.ensures _ _
-    (ranges_next _ _ _ _ _ _ _ _ c.within-7.ensures _ _
-    (ranges_next _ _ _ _ _ _ _ _ c.within-6.ensures _ _
-    (ranges_next _ _ _ _ _ _ _ _ c.within-5.ensures _ _
-    (ranges_next _ _ _ _ _ _ _ _ c.within-4.ensures _ _
-    (ranges_next _ _ _ _ _ _ _ _ c.within-3.ensures _ _
-    (ranges_next _ _ _ _ _ _ _ _ c.within-2.ensures _ _
-    (ranges_first _ _ _ _ _ _ _ _ c.within.ensures) c.and.ensures) c.and-2.ensures) c.and-3.ensures) c.and-4.ensures) c.and-5.ensures)
-    c.and-6.ensures) c.and-7.ensures) c.and-8.ensures _ c.number_ranges.ensures
+    let r = c.args.r.now in
+    let others = ranges (places_of r.kind) r.numbers 10 in
+    c.number_ranges.ensures
+    ∙ ap (λ (n : ℕ). found_then n others) (sym c.if-field-ne0.false ∙ c.service_outside-field.ensures) ∙ all_are r
