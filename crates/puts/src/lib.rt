@@ -26,13 +26,28 @@ fn put_in_byte(part: &mut [u8], i: usize, skip: usize, n: usize, c: u64)
     part[i] = byte_with(part[i], skip, n, c);
 }
 
-// Makes the `width` bits from the byte `first` on the low bits of `value`, and changes no other bit. Whole bytes are not read.
+// Makes the 32 bits from the byte `i` on the low bits of `value`, by one store, and changes no other bit.
+fn put_four(part: &mut [u8], i: usize, value: u64)
+    requires { i + 4 ≤ length part.old }
+    ensures { unpack part.new ≡ put (8 * i) (bits 32 value) (unpack part.old) }
+{
+    let four = bits::low(value, 32) as u32;
+    part[i..i + 4].copy_from_slice(&four.to_be_bytes());
+}
+
+// Makes the `width` bits from the byte `first` on the low bits of `value`, and changes no other bit. Whole bytes are not
+// read; the first four, where so many bits are left, are stored at once.
 fn put_bytes(part: &mut [u8], first: usize, width: usize, value: u64)
     requires { (width < 64) × (8 * first + width ≤ 8 * length part.old) × (8 * first + width < 2 ^ 64) }
     ensures { unpack part.new ≡ put (8 * first) (bits width value) (unpack part.old) }
 {
     let mut i = first;
     let mut left = width;
+    if left >= 32 {
+        left -= 32;
+        put_four(part, i, value >> left);
+        i += 4;
+    }
     while left >= 8 {
         left -= 8;
         part[i] = bits::low(value >> left, 8) as u8;
