@@ -83,8 +83,8 @@ fn zero_test(misplaced: bool, clear: bool) -> Result<(), Refusal>
 pub fn record_tests(r: &Record) -> Result<(), Refusal>
     ensures { result ≡ record_tests r.now }
 {
+    ranges::field_tests(r)?;
     let clear = bits::zero_from(&r.raw, types::raw_count(r.kind));
-    ranges::field_tests(r)
-        .and(zero_test(unused(r), clear))
-        .and(marks_test(r))
+    zero_test(unused(r), clear)?;
+    marks_test(r)
 }
