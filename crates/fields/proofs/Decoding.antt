@@ -1,8 +1,8 @@
 -- What the loop over a type's places has decoded. Assumes nothing.
 use mathlib.Core.Path.{◌≡◌, refl, sym, ap, ap₂, ◌∙◌}
-use mathlib.Core.Bool.{Bool, true, true≢false, ◌&&◌}
+use mathlib.Core.Bool.{Bool, true, false, true≢false, ◌&&◌}
 use mathlib.Core.List.{List, [], ◌∷◌}
-use Prim.Native.Nat.{ℕ, suc, ◌+◌, ◌-◌, ◌*◌, ◌^◌, ◌≤◌, ◌<◌}
+use Prim.Native.Nat.{ℕ, suc, ◌+◌, ◌-◌, ◌*◌, ◌%◌, ◌^◌, ◌≤◌, ◌<◌}
 use native.Mathlib.Nat.{mul_assoc, mul_comm, mul-add}
 use native.Mathlib.Numerals.{add-one}
 use native.Mathlib.Omega.{arith}
@@ -11,7 +11,8 @@ use lib.IntN.{ℤ, pos}
 use lib.ListN.{length, length-set, length-drop, length-replicate, take, drop, replicate, get_or, set}
 use lib.Pow.{pow-add, pow_mono}
 use lib.Seq.{take_all, drop-cons, drop-drop, drop-set-lt}
-use borrow.Author.Tests.{eq-eqb}
+use borrow.Author.Tests.{eqb-false, eq-eqb}
+use Rattle.std.proofs.lemmas.Nat.{one_shl}
 use Rattle.bits.specs.Bits.{bit, number, bits, cut, put}
 use Rattle.bits.specs.Signed.{signed_of, is_minus_zero}
 use Rattle.bits.proofs.Lists.{length-cut, put_same, put-cons, put_whole}
@@ -19,12 +20,12 @@ use Rattle.bits.proofs.Numbers.{bits_back, number-cut-lt}
 use Rattle.format.specs.Fields.{Field, widest, unsigned, signed, absent, width, is_signed, total, value, marked, values, minus_zeros}
 use Rattle.format.specs.Records.{mark_of}
 use Rattle.format.specs.Types.{places, mark_width, places_of}
-use Rattle.format.proofs.Information.{every, every_head, every_drop, marks_cover, length_information, widths, length-values}
+use Rattle.format.proofs.Information.{every, every_head, every_at, every_drop, marks_cover, length_information, widths, length-values}
 use Rattle.format.proofs.Information.{length-minus_zeros, mark_of-lt, places-from}
-use Rattle.types.proofs.Table.{wide, all_wide, width_tells, place_at, few_used, none_past}
+use Rattle.types.proofs.Table.{wide, all_wide, width_tells, place_at, few_used, used_at, none_past}
 use Rattle.types.specs.declared.rows.Place.{Place}
 use Rattle.types.specs.Rows.{no_place, Describes}
-use Rattle.fields.specs.Decoded.{number_of, mark_bit, Decoded}
+use Rattle.fields.specs.Decoded.{number_of, Decoded}
 
 -- ---- one field
 bits-here : (w : ℕ) (u : List Bool) (at x : ℕ) → at + w ≤ length u → x ≡ number (cut at w u) → bits w x ≡ cut at w u
@@ -46,6 +47,14 @@ mark-here absent u at x h e = refl
 
 -- ---- the loop
 
+-- `if b { minus += 1 << i }`
+pub marked_here : {b : Bool} (i minus : ℕ) {m : ℕ} → b ≡ true → i < mark_width → m ≡ minus + 1 * 2 ^ i % 2 ^ mark_width
+    → m ≡ minus + bit b * 2 ^ i
+marked_here i minus e h f = f ∙ ap (λ (k : ℕ). minus + k) (one_shl i mark_width h) ∙ rw e (omega arith)
+
+pub unmarked_here : {b : Bool} (i minus : ℕ) {m : ℕ} → b ≡ false → m ≡ minus → m ≡ minus + bit b * 2 ^ i
+unmarked_here i minus e f = f ∙ rw e (omega arith)
+
 -- The loop has come to the place i of the record and to the place `at` of the bits `u`; the fields begin at their place `from`.
 pub record ReadSoFar (u : List Bool) (from kind : ℕ) (numbers : List ℤ) (minus at i : ℕ) : Type 0 where
   pub long : length numbers ≡ places
@@ -55,16 +64,16 @@ pub record ReadSoFar (u : List Bool) (from kind : ℕ) (numbers : List ℤ) (min
   pub mark : minus + 2 ^ i * mark_of (minus_zeros (drop i (places_of kind)) (drop at u))
       ≡ mark_of (minus_zeros (places_of kind) (drop from u))
 
-pub read_start : (u : List Bool) (from kind : ℕ) → ReadSoFar u from kind (replicate places (pos 0)) 0 from 0
-read_start u from kind =
+pub read_start : (u : List Bool) (from kind : ℕ) {numbers : List ℤ} {minus : ℕ} → numbers ≡ replicate places (pos 0) → minus ≡ 0
+    → ReadSoFar u from kind numbers minus from 0
+read_start u from kind {numbers} blank unmarked =
     let fs = places_of kind in
-    let zeros = replicate places (pos 0) in
-    let l : length zeros ≡ places = length-replicate places (pos 0) in
+    let l : length numbers ≡ places = rw blank (length-replicate places (pos 0)) in
     record {
       long = l;
       place = refl;
-      filled = put_whole (values fs (drop from u)) zeros (length-values fs (drop from u) ∙ length_information kind ∙ sym l);
-      rest = refl;
+      filled = put_whole (values fs (drop from u)) numbers (length-values fs (drop from u) ∙ length_information kind ∙ sym l);
+      rest = blank;
       mark = omega arith;
     }
 
@@ -92,7 +101,7 @@ none_left (signed w k ∷ fs) p e z =
 module _ {u : List Bool} {from kind : ℕ} {numbers : List ℤ} {minus at i : ℕ} (c : ReadSoFar u from kind numbers minus at i) where
   -- all fields
   pub read_all : {table : List Place} → Describes kind table → i ≡ length table
-      → Decoded kind (drop from u) (record { numbers = numbers; minus = minus })
+      → Decoded kind (drop from u) numbers minus
   read_all d e =
       let fs = drop i (places_of kind) in
       let h : i ≤ places = omega (arith, few_used d) in
@@ -137,7 +146,16 @@ module _ {u : List Bool} {from kind : ℕ} {numbers : List ℤ} {minus at i : �
     next : drop i (places_of kind) ≡ f ∷ drop (i + 1) (places_of kind)
     next = places-from kind i l
 
-    -- it is narrow, and lies in the bits
+    -- the mark has a bit for it; it has bits, is narrow, and lies in the bits
+    pub mark-place : i < mark_width
+    mark-place = omega (arith, l, marks_cover)
+
+    pub some_here : 0 < (get_or table i no_place).width
+    some_here =
+        let e : eqb (width f) 0 ≡ false =
+        width_tells f (every_at wide (places_of kind) i refl (all_wide kind)) ∙ used_at d i h in
+        omega (arith, width_is, eqb-false (width f) 0 e)
+
     pub width-here : (get_or table i no_place).width ≤ widest
     width-here = omega (arith, width_is, (widths kind i).0)
 
@@ -161,15 +179,15 @@ module _ {u : List Bool} {from kind : ℕ} {numbers : List ℤ} {minus at i : �
       on : drop (width f) (drop at u) ≡ drop (at + w) u
       on = drop-drop (width f) at u ∙ ap (λ (k : ℕ). drop (at + k) u) (sym width_is)
 
-      module _ {v : ℤ} {m : ℕ} (ev : v ≡ number_of ((get_or table i no_place).signed) ((get_or table i no_place).width) x)
-          (em : m ≡ mark_bit ((get_or table i no_place).signed) ((get_or table i no_place).width) x i) where
+      module _ {v : ℤ} {m : ℕ} (ev : v ≡ number_of (get_or table i no_place).signed (get_or table i no_place).width x)
+          (em : m ≡ minus + bit ((get_or table i no_place).signed && is_minus_zero (bits (get_or table i no_place).width x)) * 2 ^ i) where
         v_is : v ≡ value f (take (width f) (drop at u))
         v_is = ev ∙ ap₂ (λ (b : Bool) (k : ℕ). number_of b k x) sign_is width_is ∙ number-here f u at x room x_is
 
-        m_is : m ≡ bit (marked f (take (width f) (drop at u))) * 2 ^ i
+        m_is : m ≡ minus + bit (marked f (take (width f) (drop at u))) * 2 ^ i
         m_is =
-            em ∙ ap₂ (λ (b : Bool) (k : ℕ). mark_bit b k x i) sign_is width_is
-            ∙ ap (λ (b : Bool). bit b * 2 ^ i) (mark-here f u at x room x_is)
+            em ∙ ap₂ (λ (b : Bool) (k : ℕ). minus + bit (b && is_minus_zero (bits k x)) * 2 ^ i) sign_is width_is
+            ∙ ap (λ (b : Bool). minus + bit b * 2 ^ i) (mark-here f u at x room x_is)
 
         values_more : values (drop i (places_of kind)) (drop at u) ≡ v ∷ values (drop (i + 1) (places_of kind)) (drop (at + w) u)
         unfolding values
@@ -177,7 +195,7 @@ module _ {u : List Bool} {from kind : ℕ} {numbers : List ℤ} {minus at i : �
             ap (λ (fs : List Field). values fs (drop at u)) next
             ∙ ap₂ (λ (z : ℤ) (q : List Bool). z ∷ values (drop (i + 1) (places_of kind)) q) (sym v_is) on
 
-        mark_more : minus + m + 2 ^ (i + 1) * mark_of (minus_zeros (drop (i + 1) (places_of kind)) (drop (at + w) u))
+        mark_more : m + 2 ^ (i + 1) * mark_of (minus_zeros (drop (i + 1) (places_of kind)) (drop (at + w) u))
             ≡ mark_of (minus_zeros (places_of kind) (drop from u))
         unfolding minus_zeros mark_of
         mark_more =
@@ -201,7 +219,7 @@ module _ {u : List Bool} {from kind : ℕ} {numbers : List ℤ} {minus at i : �
             drop-set-lt (i + 1) numbers i v (omega arith)
             ∙ ap (λ (vs : List ℤ). drop 1 vs) (sym here ∙ c.rest ∙ ap (λ (k : ℕ). replicate k (pos 0)) n)
 
-        pub read_on : ReadSoFar u from kind (set numbers i v) (minus + m) (at + (get_or table i no_place).width) (i + 1)
+        pub read_on : ReadSoFar u from kind (set numbers i v) m (at + (get_or table i no_place).width) (i + 1)
         read_on =
             let fs = drop (i + 1) (places_of kind) in
             let vs = values fs (drop (at + w) u) in

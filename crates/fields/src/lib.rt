@@ -3,11 +3,11 @@
 
 mod words;
 
-ghost use Rattle.std.specs.Prelude.{◌≡◌, true, false, ◌+◌, ◌*◌, ◌-◌, ◌^◌, ◌<◌, ◌≤◌, pos, nat_abs, length, drop};
+ghost use Rattle.std.specs.Prelude.{◌≡◌, true, false, ◌+◌, ◌*◌, ◌-◌, ◌^◌, ◌<◌, ◌≤◌, pos, nat_abs, length, drop, replicate};
 ghost use Rattle.bits.specs.Bits.{number, unpack, true_bits, put};
 ghost use Rattle.format.specs.Fields.{widest, total, codes};
 ghost use Rattle.format.specs.Records.{mark_bits};
-ghost use Rattle.format.specs.Types.{mark_width, places_of};
+ghost use Rattle.format.specs.Types.{places, mark_width, places_of};
 ghost use Rattle.fields.specs.Coded.{code_of, Tested};
 ghost use Rattle.fields.specs.Decoded.{Decoded};
 
@@ -17,33 +17,27 @@ use signs::Signed;
 use types::rows::Place;
 use words::{FieldBits, Held};
 
-// The numbers of a type's information fields, and their minus-zero mark.
-#[derive(Clone, Copy)]
-pub struct Numbers {
-    pub numbers: [i64; PLACES],
-    pub minus: Mark,
-}
-
-// The numbers of a type's information fields, whose bits begin at the place `from` of the part. Past the last field all numbers are 0.
-pub fn numbers_at(part: Part, from: usize, kind: u8) -> Numbers
-    requires { (from + total (places_of kind) ≤ 8 * length part.bytes.now) × (from + total (places_of kind) < 2 ^ 64) }
-    ensures { Decoded kind (drop from (true_bits part.entry.phase part.entry.bytes.now)) result }
+// Sets blank places and a blank mark to the numbers of a type's information fields, whose bits begin at the place `from` of the part, and
+// their minus-zero mark. Past the last field all numbers stay 0.
+pub fn numbers_at(part: Part, from: usize, kind: u8, numbers: &mut [i64; PLACES], minus: &mut Mark)
+    requires room { (from + total (places_of kind) ≤ 8 * length part.bytes.now) × (from + total (places_of kind) < 2 ^ 64) }
+    requires blank { (numbers.old ≡ replicate places (pos 0)) × (minus.old ≡ 0) }
+    ensures { Decoded kind (drop from (true_bits part.entry.phase part.entry.bytes.now)) numbers.new minus.new }
 {
-    let mut numbers = [0i64; PLACES];
-    let mut minus: Mark = 0;
     let mut at = from;
     for (i, place) in types::places_of(kind).iter().enumerate() {
-        let word = part.field(at, place.width);
+        let word = part.nonempty_field(at, place.width);
         let field = FieldBits {
             signed: place.signed,
             width: place.width,
             word,
         };
         numbers[i] = field.number();
-        minus += field.mark_bit(i);
+        if field.is_minus_zero() {
+            *minus += 1 << i;
+        }
         at += place.width;
     }
-    Numbers { numbers, minus }
 }
 
 // The bits of a number in the field of a place.
@@ -70,16 +64,15 @@ fn code(place: &Place, v: i64, minus: bool) -> FieldBits
 }
 
 // Puts the bits of a type's information fields from the place `from` of the part on.
-pub fn put_numbers(part: &mut [u8], from: usize, kind: u8, fields: &Numbers)
+pub fn put_numbers(part: &mut [u8], from: usize, kind: u8, numbers: &[i64; PLACES], minus: Mark)
     requires ends { (from + total (places_of kind) ≤ 8 * length part.old) × (from + total (places_of kind) < 2 ^ 64) }
-    requires tested { Tested (places_of kind) fields.now.numbers fields.now.minus }
-    ensures { unpack part.new
-        ≡ put from (codes (places_of kind) fields.now.numbers (mark_bits mark_width fields.now.minus)) (unpack part.old) }
+    requires tested { Tested (places_of kind) numbers.now minus }
+    ensures { unpack part.new ≡ put from (codes (places_of kind) numbers.now (mark_bits mark_width minus)) (unpack part.old) }
 {
-    let mut marks = fields.minus;
+    let mut marks = minus;
     let mut held = Held::none(from);
     for (i, place) in types::places_of(kind).iter().enumerate() {
-        held.hold(part, code(place, fields.numbers[i], marks % 2 == 1));
+        held.hold(part, code(place, numbers[i], marks % 2 == 1));
         marks /= 2;
     }
     held.put(part);

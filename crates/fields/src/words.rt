@@ -1,11 +1,10 @@
 // A field's bits as a number, and bits that are held until they fill a word.
-ghost use Rattle.std.specs.Prelude.{◌≡◌, true, ◌+◌, ◌*◌, ◌^◌, ◌<◌, ◌≤◌, length};
+ghost use Rattle.std.specs.Prelude.{◌≡◌, true, ◌&&◌, ◌+◌, ◌*◌, ◌^◌, ◌<◌, ◌≤◌, length};
 ghost use Rattle.bits.specs.Bits.{bits, unpack, put};
 ghost use Rattle.format.specs.Fields.{widest};
-ghost use Rattle.format.specs.Types.{mark_width};
-ghost use Rattle.fields.specs.Decoded.{number_of, mark_bit};
+ghost use Rattle.bits.specs.Signed.{is_minus_zero};
+ghost use Rattle.fields.specs.Decoded.{number_of};
 
-use format::Mark;
 use signs::Signed;
 
 // The bits of a field as a number, with the width of the field and whether it is signed.
@@ -42,16 +41,11 @@ impl FieldBits {
         }
     }
 
-    // The bit of the minus-zero mark, for a field at the place `i` of the record.
-    pub fn mark_bit(self, i: usize) -> Mark
-        requires { i < mark_width }
-        ensures { result ≡ mark_bit self.signed self.width self.word i }
+    // Whether they are minus zero, of a signed field.
+    pub fn is_minus_zero(self) -> bool
+        ensures { result ≡ (self.signed && is_minus_zero (bits self.width self.word)) }
     {
-        if self.signed && self.sign_and_magnitude().is_minus_zero() {
-            1 << i
-        } else {
-            0
-        }
+        self.signed && self.sign_and_magnitude().is_minus_zero()
     }
 }
 

@@ -86,7 +86,7 @@ tells_then {a} {b} {ls} {ms} s t = at a s.passes s.code
     }
 
 -- an answer is told alike, whatever it gives
-answered_code : {A : Type 0} (a : Result A Refusal) → answer_code (answer_of a) ≡ answer_code a
+pub answered_code : {A : Type 0} (a : Result A Refusal) → answer_code (answer_of a) ≡ answer_code a
 answered_code (Ok x) = refl
 answered_code (Err r) = refl
 

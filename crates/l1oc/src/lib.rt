@@ -85,17 +85,16 @@ pub extern "C" fn l1oc_read(bytes: &[u8], count: usize, phase: u32, place: usize
         (reading (phase_of phase) bytes.now count place) }
     ensures writes_back { result.number ≡ 0 → WritesBack (phase_of phase) bytes.now count place result.content }
 {
-    let (Code { number, value }, content) = parts(reading::read(
-        bytes,
-        count,
-        phase_of(phase),
-        place,
-    ));
-    ReadCode {
-        number,
-        value,
-        content,
-    }
+    let mut code = ReadCode {
+        number: 0,
+        value: 0,
+        content: Record::default(),
+    };
+    let answer = reading::read_into(bytes, count, phase_of(phase), place, &mut code.content);
+    let Code { number, value } = answers::answer_code(&answer);
+    code.number = number;
+    code.value = value;
+    code
 }
 
 // Writes a record's string at a place, and answers the place after it. A refusal leaves every byte unchanged.
@@ -120,12 +119,16 @@ pub extern "C" fn l1oc_read_set(bytes: &[u8], count: usize, phase: u32, place: u
         (set_reading (phase_of phase) bytes.now count place) }
     ensures set_writes_back { result.number ≡ 0 → SetWritesBack (phase_of phase) bytes.now count place result.content }
 {
-    let (Code { number, value }, content) = parts(sets::read(bytes, count, phase_of(phase), place));
-    SetCode {
-        number,
-        value,
-        content,
-    }
+    let mut code = SetCode {
+        number: 0,
+        value: 0,
+        content: Set::default(),
+    };
+    let answer = sets::read_into(bytes, count, phase_of(phase), place, &mut code.content);
+    let Code { number, value } = answers::answer_code(&answer);
+    code.number = number;
+    code.value = value;
+    code
 }
 
 // Writes a set at a place, and answers the place after it. A refusal leaves every byte unchanged.

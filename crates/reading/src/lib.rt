@@ -3,16 +3,22 @@
 
 mod whole;
 
+ghost use Rattle.std.specs.Prelude.{◌≡◌};
+ghost use Rattle.format.specs.Reading.{reading, content_of};
+ghost use Rattle.format.specs.Records.{blank};
+ghost use Rattle.format.specs.Tests.{answer_of};
 ghost use Rattle.format.specs.Writing.{ReadPromise};
+ghost use Rattle.reading.specs.Reads.{Reads};
 
 use bits::Phase;
 use format::{Record, Refusal};
 use recording::Recording;
 use whole::Whole;
 
-// Reads the string at a place: 1, 2, 3, 5, 4, 5, 6, 7, 8.
-pub fn read(rec: &[u8], count: usize, phase: Phase, place: usize) -> Result<Record, Refusal>
-    ensures { ReadPromise phase rec.now count place result }
+// The tests 1, 2, 3, 5, 4, 5, 6, 7, 8; where they pass, a blank record is made that of the string at the place.
+fn fill(rec: &[u8], count: usize, phase: Phase, place: usize, r: &mut Record) -> Result<(), Refusal>
+    requires { r.old ≡ blank }
+    ensures { Reads (reading phase rec.now count place) result r.new }
 {
     let recording = Recording::new(rec, count, phase)?;
     answers::place_test(recording.count, place)?;
@@ -22,5 +28,35 @@ pub fn read(rec: &[u8], count: usize, phase: Phase, place: usize) -> Result<Reco
         offset: place % 8,
         frame,
     };
-    whole.checked(place)
+    whole.checked(place, r)
+}
+
+// Reads the string at a place into a lent record, which is blank beside a refusal: 1, 2, 3, 5, 4, 5, 6, 7, 8.
+#[inline(always)]
+pub fn read_into(
+    rec: &[u8],
+    count: usize,
+    phase: Phase,
+    place: usize,
+    r: &mut Record,
+) -> Result<(), Refusal>
+    ensures answered { result ≡ answer_of (reading phase rec.now count place) }
+    ensures content { r.new ≡ content_of (reading phase rec.now count place) }
+    ensures promise { ReadPromise phase rec.now count place (reading phase rec.now count place) }
+{
+    *r = Record::default();
+    let answer = fill(rec, count, phase, place, r);
+    if answer.is_err() {
+        *r = Record::default();
+    }
+    answer
+}
+
+// Reads the string at a place.
+pub fn read(rec: &[u8], count: usize, phase: Phase, place: usize) -> Result<Record, Refusal>
+    ensures { ReadPromise phase rec.now count place result }
+{
+    let mut content = Record::default();
+    fill(rec, count, phase, place, &mut content)?;
+    Ok(content)
 }

@@ -2,10 +2,11 @@
 ghost use Rattle.std.specs.Prelude.{◌≡◌, ◌+◌, ◌*◌, ◌^◌, ◌<◌, ◌≤◌, length, replicate};
 ghost use Rattle.bits.specs.Bits.{true_bits, cut, put, Covers, pack};
 ghost use Rattle.format.specs.Reading.{record_at};
-ghost use Rattle.format.specs.Records.{raw_bytes};
+ghost use Rattle.format.specs.Records.{raw_bytes, blank};
 ghost use Rattle.format.specs.Strings.{type_at, length_of};
 ghost use Rattle.format.specs.Types.{most_raw};
 ghost use Rattle.reading.specs.Checked.{checked};
+ghost use Rattle.reading.specs.Reads.{Reads};
 
 use bits::Part;
 use format::{RAW_BYTES, Record, Refusal};
@@ -22,64 +23,49 @@ pub struct Whole<'a> {
     pub ghost long: { frame.long ≡ length_of frame.kind },
 }
 
-// The record's raw bytes from the `n` true bits from the place `from` on; most types have none.
-fn raw_at(part: Part, from: usize, n: usize) -> [u8; RAW_BYTES]
-    requires { (n ≤ most_raw) × (from + n ≤ 8 * length part.bytes.now) × (from + n < 2 ^ 63) }
-    ensures { result ≡ put 0 (pack (cut from n (true_bits part.entry.phase part.entry.bytes.now))) (replicate raw_bytes 0) }
+// Sets blank raw bytes to the `n` true bits from the place `from` on; most types have none.
+fn raw_at(part: Part, from: usize, n: usize, raw: &mut [u8; RAW_BYTES])
+    requires room { (n ≤ most_raw) × (from + n ≤ 8 * length part.bytes.now) × (from + n < 2 ^ 63) }
+    requires blank { raw.old ≡ replicate raw_bytes 0 }
+    ensures { raw.new ≡ put 0 (pack (cut from n (true_bits part.entry.phase part.entry.bytes.now))) (replicate raw_bytes 0) }
 {
-    let mut raw = [0; RAW_BYTES];
     if n > 0 {
-        puts::pack_bits(&mut raw, part, from, n);
+        puts::pack_bits(raw, part, from, n);
     }
-    raw
 }
 
 impl<'a> Whole<'a> {
-    // The record of the string.
-    fn decoded(self) -> Record
-        ensures { result ≡ record_at (true_bits self.entry.part.phase self.entry.part.bytes.now) self.entry.offset }
+    // Makes a blank record that of the string.
+    fn decode(self, r: &mut Record)
+        requires { r.old ≡ blank }
+        ensures { r.new ≡ record_at (true_bits self.entry.part.phase self.entry.part.bytes.now) self.entry.offset }
     {
         let part = self.part;
         let kind = self.frame.kind;
         let service = part.field(self.offset + 18, 32);
         let information = self.offset + 50;
-        let fields = fields::numbers_at(part, information, kind);
-        let numbers = fields.numbers;
-        let minus = fields.minus;
-        let raw = raw_at(part, information, types::raw_count(kind));
-        let satellite = ((service >> 26) % 64) as u8;
-        let signal = ((service >> 25) % 2) as u8;
-        let validity = ((service >> 24) % 2) as u8;
-        let call = ((service >> 20) % 16) as u8;
-        let attitude = ((service >> 19) % 2) as u8;
-        let correction = ((service >> 17) % 4) as u8;
-        let next = ((service >> 16) % 2) as u8;
-        let time = service % 65536;
-        Record {
-            kind,
-            satellite,
-            signal,
-            validity,
-            call,
-            attitude,
-            correction,
-            next,
-            time,
-            numbers,
-            minus,
-            raw,
-        }
+        r.kind = kind;
+        r.satellite = ((service >> 26) % 64) as u8;
+        r.signal = ((service >> 25) % 2) as u8;
+        r.validity = ((service >> 24) % 2) as u8;
+        r.call = ((service >> 20) % 16) as u8;
+        r.attitude = ((service >> 19) % 2) as u8;
+        r.correction = ((service >> 17) % 4) as u8;
+        r.next = ((service >> 16) % 2) as u8;
+        r.time = service % 65536;
+        fields::numbers_at(part, information, kind, &mut r.numbers, &mut r.minus);
+        raw_at(part, information, types::raw_count(kind), &mut r.raw);
     }
 
-    // The tests 6, 7, 8, and the record. A refusal by 6 names the place.
-    pub fn checked(self, place: usize) -> Result<Record, Refusal>
-        ensures { result ≡ checked (true_bits self.entry.part.phase self.entry.part.bytes.now) self.entry.offset place }
+    // The tests 6, 7, 8; where they pass, a blank record is made that of the string. A refusal by 6 names the place.
+    pub fn checked(self, place: usize, r: &mut Record) -> Result<(), Refusal>
+        requires { r.old ≡ blank }
+        ensures { Reads (checked (true_bits self.entry.part.phase self.entry.part.bytes.now) self.entry.offset place) result r.new }
     {
         if !types::divides(self.part, self.offset, self.frame.long, self.frame.kind) {
             return Err(Refusal::CheckFails(place));
         }
-        let content = self.decoded();
-        ranges::field_tests(&content)?;
-        Ok(content)
+        self.decode(r);
+        ranges::decoded_tests(r)
     }
 }

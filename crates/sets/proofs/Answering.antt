@@ -53,16 +53,10 @@ module _ (φ : Phase) (bytes : List ℕ) (count place : ℕ) where
       unfolding set_reading ◌then◌
       third-refuses k = rw (e, ← f, g, ← h, k) refl
 
-      module _ {c : Record} (k : at third ≡ Ok c) where
-        pub tests-refuse : {x : Refusal} → set_tests (record { first = a; second = b; third = c }) ≡ Err x
-            → Err x ≡ set_reading φ bytes count place
-        unfolding set_reading ◌then◌
-        tests-refuse t = rw (e, ← f, g, ← h, k, t) refl
-
-        pub set-read : set_tests (record { first = a; second = b; third = c }) ≡ Ok tt
-            → Ok (record { first = a; second = b; third = c }) ≡ set_reading φ bytes count place
-        unfolding set_reading ◌then◌
-        set-read t = rw (e, ← f, g, ← h, k, t) refl
+      pub set-tested : {c : Record} → at third ≡ Ok c → {t : Answer} → t ≡ set_tests (record { first = a; second = b; third = c })
+          → giving t (record { first = a; second = b; third = c }) ≡ set_reading φ bytes count place
+      unfolding set_reading ◌then◌
+      set-tested k t = rw (t, e, ← f, g, ← h, k) refl
 
 -- ---- what reading promises, of what is given
 pub promised : (φ : Phase) {bytes : List ℕ} (count place : ℕ) → ((i : ℕ) → Fits w8 (get_or bytes i 0)) → {r : Result Set Refusal}

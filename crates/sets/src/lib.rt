@@ -1,7 +1,10 @@
 // Ephemeris sets: three strings of types 10, 11 and 12, each where the one before it ends, read and written as one.
 #![tactic(auto)]
 
-ghost use Rattle.format.specs.Sets.{SetReadPromise, SetWritePromise};
+ghost use Rattle.std.specs.Prelude.{◌≡◌};
+ghost use Rattle.format.specs.Sets.{blank_set, set_reading, SetReadPromise, SetWritePromise};
+ghost use Rattle.format.specs.Tests.{answer_of, given_or};
+ghost use Rattle.reading.specs.Reads.{Reads};
 
 use bits::Phase;
 use format::{Refusal, Set};
@@ -13,21 +16,44 @@ const STRING_BITS: usize = 250;
 // The bits of a set.
 const SET_BITS: usize = 3 * STRING_BITS;
 
+// Reads the three strings into a lent set, and tests it.
+fn fill(rec: &[u8], count: usize, phase: Phase, place: usize, s: &mut Set) -> Result<(), Refusal>
+    ensures { Reads (set_reading phase rec.now count place) result s.new }
+{
+    reading::read_into(rec, count, phase, place, &mut s.first)?;
+    let second_place = place + types::length_of(s.first.kind);
+    reading::read_into(rec, count, phase, second_place, &mut s.second)?;
+    let third_place = second_place + types::length_of(s.second.kind);
+    reading::read_into(rec, count, phase, third_place, &mut s.third)?;
+    members::set_tests(s)
+}
+
+// Reads the set at a place into a lent set, which is blank beside a refusal.
+#[inline(always)]
+pub fn read_into(
+    rec: &[u8],
+    count: usize,
+    phase: Phase,
+    place: usize,
+    s: &mut Set,
+) -> Result<(), Refusal>
+    ensures answered { result ≡ answer_of (set_reading phase rec.now count place) }
+    ensures content { s.new ≡ given_or blank_set (set_reading phase rec.now count place) }
+    ensures promise { SetReadPromise phase rec.now count place (set_reading phase rec.now count place) }
+{
+    let answer = fill(rec, count, phase, place, s);
+    if answer.is_err() {
+        *s = Set::default();
+    }
+    answer
+}
+
 // Reads the set at a place.
 pub fn read(rec: &[u8], count: usize, phase: Phase, place: usize) -> Result<Set, Refusal>
     ensures { SetReadPromise phase rec.now count place result }
 {
-    let first = reading::read(rec, count, phase, place)?;
-    let second_place = place + types::length_of(first.kind);
-    let second = reading::read(rec, count, phase, second_place)?;
-    let third_place = second_place + types::length_of(second.kind);
-    let third = reading::read(rec, count, phase, third_place)?;
-    let content = Set {
-        first,
-        second,
-        third,
-    };
-    members::set_tests(&content)?;
+    let mut content = Set::default();
+    fill(rec, count, phase, place, &mut content)?;
     Ok(content)
 }
 
@@ -41,8 +67,8 @@ pub fn write(rec: &mut [u8], count: usize, place: usize, s: Set) -> Result<usize
     writing::room_test(count, place, SET_BITS)?;
     let second = place + STRING_BITS;
     let third = second + STRING_BITS;
-    writing::put_at(rec, place, Writable { content: s.first });
-    writing::put_at(rec, second, Writable { content: s.second });
-    writing::put_at(rec, third, Writable { content: s.third });
+    writing::put_at(rec, place, Writable { content: &s.first });
+    writing::put_at(rec, second, Writable { content: &s.second });
+    writing::put_at(rec, third, Writable { content: &s.third });
     Ok(place + SET_BITS)
 }

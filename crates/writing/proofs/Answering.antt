@@ -21,7 +21,7 @@ use Rattle.format.specs.Writing.{string, write_tests, writing, write_returned, w
 use Rattle.format.proofs.Order.{then_both, when_pass}
 use Rattle.format.proofs.Tests.{place-passes}
 use Rattle.format.proofs.Theorems.{written_back, write_numbered}
-use Rattle.format.proofs.Writing.{Typed, length-string}
+use Rattle.format.proofs.Writing.{Typed}
 
 -- ---- what writing promises
 
@@ -73,8 +73,8 @@ writes {bytes} {count} {place} {long} {r} holds k after left =
     record { answered = k.writes; left = left; numbered = numbered bytes count place r k.writes; back = λ next f. back }
 
 -- the string put into the part of the bytes that it covers
-module _ (bytes t : List ℕ) (place long last : ℕ) (r : Record) (holds : Typed r) (el : long ≡ length_of r.kind)
-    (room : place + long ≤ 8 * length bytes) (ends : last ≡ (place + long + 7) / 8) where
+module _ (bytes t : List ℕ) (place long last : ℕ) (r : Record) (l : length (string r) ≡ length_of r.kind)
+    (el : long ≡ length_of r.kind) (room : place + long ≤ 8 * length bytes) (ends : last ≡ (place + long + 7) / 8) where
   abbrev first : ℕ
   first = place / 8
 
@@ -88,7 +88,6 @@ module _ (bytes t : List ℕ) (place long last : ℕ) (r : Record) (holds : Type
       (e : unpack t ≡ put (place % 8) (string r) (unpack (take size (drop first bytes)))) where
     after-bits : unpack after ≡ put place (string r) (unpack bytes)
     after-bits =
-        let l = length-string r holds in
         put_part bytes t first size (place % 8) place (string r) (omega arith) (omega arith) (omega arith) e
 
     after-length : length after ≡ length bytes
@@ -98,7 +97,7 @@ module _ (bytes t : List ℕ) (place long last : ℕ) (r : Record) (holds : Type
           length-unpack after,
           length-unpack bytes,
           ap length after-bits,
-          length-put place (string r) (unpack bytes) (omega (arith, length-unpack bytes, length-string r holds, room)),
+          length-put place (string r) (unpack bytes) (omega (arith, length-unpack bytes, l, room)),
         )
 
     pub part_put : after ≡ with_bits place (string r) bytes

@@ -11,20 +11,19 @@ ghost use Rattle.format.specs.Types.{most_raw};
 ghost use Rattle.format.specs.Writing.{service_bits, string, with_bits, WritePromise};
 
 use bits::{Part, Phase};
-use fields::Numbers;
 use format::{RAW_BYTES, Record, Refusal};
 
-// A record that passes its tests.
+// A lent record that passes its tests.
 #[derive(Clone, Copy)]
-pub struct Writable {
-    pub content: Record,
-    pub ghost passes: { record_tests content ≡ Ok tt },
+pub struct Writable<'a> {
+    pub content: &'a Record,
+    pub ghost passes: { record_tests content.now ≡ Ok tt },
 }
 
 // The service bits of a record, bits 13 to 50, as a number.
-fn service(r: Record) -> u64
-    requires { field_tests r ≡ Ok tt }
-    ensures { result ≡ number (service_bits r) }
+fn service(r: &Record) -> u64
+    requires { field_tests r.now ≡ Ok tt }
+    ensures { result ≡ number (service_bits r.now) }
 {
     let satellite = u64::from(r.kind) * 64 + u64::from(r.satellite);
     let validity = (satellite * 2 + u64::from(r.signal)) * 2 + u64::from(r.validity);
@@ -33,7 +32,7 @@ fn service(r: Record) -> u64
     next * 65536 + r.time
 }
 
-// Puts the first `n` raw bits from the place `to` on.
+// Puts the first `n` raw bits from the place `to` on. By value, since lending them makes the compiler copy the whole record.
 fn put_raw(part: &mut [u8], to: usize, raw: [u8; RAW_BYTES], n: usize)
     requires { (n ≤ most_raw) × (to + n ≤ 8 * length part.old) × (to + n < 2 ^ 64) }
     ensures { unpack part.new ≡ put to (cut 0 n (unpack raw)) (unpack part.old) }
@@ -45,34 +44,33 @@ fn put_raw(part: &mut [u8], to: usize, raw: [u8; RAW_BYTES], n: usize)
     puts::copy_bits(part, to, raw, 0, n);
 }
 
-// Puts the string of a record at the place `offset`.
-fn put_string(part: &mut [u8], offset: usize, r: Writable)
-    requires { (offset < 8) × (offset + length_of r.content.kind ≤ 8 * length part.old) }
-    ensures { unpack part.new ≡ put offset (string r.content) (unpack part.old) }
+// Puts the string of a record at the place `offset`. It has as many bits as its type says.
+fn put_string(part: &mut [u8], offset: usize, r: &Record)
+    requires passes { record_tests r.now ≡ Ok tt }
+    requires ends { (offset < 8) × (offset + length_of r.now.kind ≤ 8 * length part.old) }
+    ensures long { length (string r.now) ≡ length_of r.now.kind }
+    ensures bits_put { unpack part.new ≡ put offset (string r.now) (unpack part.old) }
 {
-    let content = r.content;
-    let kind = content.kind;
+    let kind = r.kind;
     let degree = types::check_count(kind);
     let count = types::length_of(kind) - degree;
     let n = types::raw_count(kind);
-    let numbers = content.numbers;
-    let minus = content.minus;
-    puts::put_field(part, offset, 50, (format::MARK << 38) + service(content));
-    fields::put_numbers(part, offset + 50, kind, &Numbers { numbers, minus });
-    put_raw(part, offset + count - n, content.raw, n);
+    puts::put_field(part, offset, 50, (format::MARK << 38) + service(r));
+    fields::put_numbers(part, offset + 50, kind, &r.numbers, r.minus);
+    put_raw(part, offset + count - n, r.raw, n);
     let c = types::check(part, offset, count, kind);
     puts::put_field(part, offset + count, degree, u64::from(c));
 }
 
 // Puts the string of a record at a place.
 pub fn put_at(rec: &mut [u8], place: usize, r: Writable)
-    requires { (place + length_of r.content.kind ≤ bit_limit) × (place + length_of r.content.kind ≤ 8 * length rec.old) }
-    ensures { rec.new ≡ with_bits place (string r.content) rec.old }
+    requires { (place + length_of r.content.now.kind ≤ bit_limit) × (place + length_of r.content.now.kind ≤ 8 * length rec.old) }
+    ensures { rec.new ≡ with_bits place (string r.entry.content.now) rec.old }
 {
     let long = types::length_of(r.content.kind);
     let first = place / 8;
     let last = (place + long).div_ceil(8);
-    put_string(&mut rec[first..last], place % 8, r);
+    put_string(&mut rec[first..last], place % 8, r.content);
 }
 
 // The test 5 of so many bits at a place.
@@ -94,6 +92,6 @@ pub fn write(rec: &mut [u8], count: usize, place: usize, r: Record) -> Result<us
     records::record_tests(&r)?;
     let long = types::length_of(r.kind);
     room_test(count, place, long)?;
-    put_at(rec, place, Writable { content: r });
+    put_at(rec, place, Writable { content: &r });
     Ok(place + long)
 }

@@ -1,5 +1,5 @@
 -- `fields::numbers_at`: what the loop has decoded when it has come to the place i of the record. Assumes nothing.
-use mathlib.Core.Path.{◌∙◌}
+use mathlib.Core.Path.{refl, sym, ◌∙◌}
 use mathlib.Core.List.{List}
 use Prim.Native.Nat.{ℕ, ◌*◌, ◌≤◌}
 use native.Mathlib.Omega.{arith}
@@ -10,7 +10,9 @@ use Rattle.bits.proofs.Phases.{length_true}
 use Rattle.bits.specs.declared.Phase.{Phase}
 use Rattle.bits.specs.Bits.{true_bits}
 use Rattle.fields.proofs.Decoding.{read_start, read_on, read_all}
-use Rattle.fields.proofs.Decoding.{mark-fits, width-here, signed-here, inside_here, small_here}
+use Rattle.fields.proofs.Decoding.{marked_here, unmarked_here, mark-fits, mark-place}
+use Rattle.fields.proofs.Decoding.{some_here, width-here, signed-here, inside_here, small_here}
+use Rattle.fields.proofs.numbers_at.Goals.{then-is_minus_zero, else-is_minus_zero}
 use Rattle.fields.proofs.numbers_at.Goals as goal
 
 -- the fields end within the part
@@ -18,45 +20,53 @@ inside-part : (φ : Phase) (s : List ℕ) {n : ℕ} → n ≤ 8 * length s → n
 inside-part φ s h = omega (arith, length_true φ s)
 
 pub loop-i-init : goal.loop-i-init
-loop-i-init c = read_start (true_bits c.args.part.phase c.args.part.bytes.now) c.args.from c.args.kind
+loop-i-init c = read_start (true_bits c.args.part.phase c.args.part.bytes.now) c.args.from c.args.kind c.requires.blank.0 c.requires.blank.1
 
-pub field-word-requires : goal.field-word-requires
-field-word-requires c =
+pub nonempty_field-word-requires : goal.nonempty_field-word-requires
+nonempty_field-word-requires c =
     let g = c.loop-i.invariant in
     let d = c.places_of-place-items.ensures in
     let h = c.loop-i-test.true in
-    (width-here g d h, omega (arith, inside_here g d h, c.requires.0))
+    (some_here g d h, width-here g d h, omega (arith, inside_here g d h, c.requires.room.0))
 
 pub invariant_of-field : goal.invariant_of-field
 invariant_of-field c =
     let g = c.loop-i.invariant in
     let d = c.places_of-place-items.ensures in
     let h = c.loop-i-test.true in
-    let room = inside-part c.args.part.phase c.args.part.bytes.now c.requires.0 in
-    record { narrow = width-here g d h; sized = signed-here g d h; small = small_here g d h room c.field-word.ensures }
+    let room = inside-part c.args.part.phase c.args.part.bytes.now c.requires.room.0 in
+    record { narrow = width-here g d h; sized = signed-here g d h; small = small_here g d h room c.nonempty_field-word.ensures }
 
 pub overflow_add-minus : goal.overflow_add-minus
 overflow_add-minus c =
     let g = c.loop-i.invariant in
     let d = c.places_of-place-items.ensures in
     let h = c.loop-i-test.true in
-    let room = inside-part c.args.part.phase c.args.part.bytes.now c.requires.0 in
+    let room = inside-part c.args.part.phase c.args.part.bytes.now c.requires.room.0 in
     let number = to_z-of_z {w = w64} (record { sfits = c.number.type_inv }) ∙ c.number.ensures in
-    record { fits = mark-fits (read_on g d h room c.field-word.ensures number c.mark_bit-minus.ensures) }
+    let mark = marked_here c.loop-i.i c.loop-i.minus (sym c.is_minus_zero.ensures ∙ c.if-is_minus_zero.true) (mark-place g d h) refl in
+    record { fits = mark-fits (read_on g d h room c.nonempty_field-word.ensures number mark) }
 
 pub overflow_add-at : goal.overflow_add-at
 overflow_add-at c =
     let inside = inside_here c.loop-i.invariant c.places_of-place-items.ensures c.loop-i-test.true in
-    record { fits = omega (arith, inside, c.requires.1) }
+    record { fits = omega (arith, inside, c.requires.room.1) }
 
 pub loop-i-preserved : goal.loop-i-preserved
 loop-i-preserved c =
     let g = c.loop-i.invariant in
     let d = c.places_of-place-items.ensures in
     let h = c.loop-i-test.true in
-    let room = inside-part c.args.part.phase c.args.part.bytes.now c.requires.0 in
+    let room = inside-part c.args.part.phase c.args.part.bytes.now c.requires.room.0 in
     let number = to_z-of_z {w = w64} (record { sfits = c.number.type_inv }) ∙ c.number.ensures in
-    read_on g d h room c.field-word.ensures number c.mark_bit-minus.ensures
+    elim c.if-is_minus_zero.branch [
+      | then-is_minus_zero w ↦
+          read_on g d h room c.nonempty_field-word.ensures number
+          (marked_here c.loop-i.i c.loop-i.minus (sym c.is_minus_zero.ensures ∙ w.if-is_minus_zero.true) (mark-place g d h) w.minus-is)
+      | else-is_minus_zero w ↦
+          read_on g d h room c.nonempty_field-word.ensures number
+          (unmarked_here c.loop-i.i c.loop-i.minus (sym c.is_minus_zero.ensures ∙ w.if-is_minus_zero.false) w.minus-is)
+    ]
 
 pub returns : goal.returns
 returns c = read_all c.loop-i.invariant c.places_of-place-items.ensures (omega arith)

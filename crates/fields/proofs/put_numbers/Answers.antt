@@ -20,15 +20,15 @@ use Rattle.fields.proofs.put_numbers.Goals as goal
 pub loop-i-init : goal.loop-i-init
 loop-i-init c =
     let u = unpack c.args.part.now in
-    let l : length c.args.fields.now.numbers ≡ places = search rules in
+    let l : length c.args.numbers.now ≡ places = search rules in
     let room : c.args.from + total (places_of c.args.kind) ≤ length u = omega (arith, length-unpack c.args.part.now, c.requires.ends.0) in
     let none = c.none-held.ensures in
     written_same (held_none c.none-held.result u none.1) (omega (arith, none)) (written_start room l c.requires.tested)
 
 pub code-requires : goal.code-requires
 code-requires c =
-    let long : length c.args.fields.now.numbers ≡ places = search rules in
-    let fits : SFits w64 (get_or c.args.fields.now.numbers c.loop-i.i (pos 0)) = search rules in
+    let long : length c.args.numbers.now ≡ places = search rules in
+    let fits : SFits w64 (get_or c.args.numbers.now c.loop-i.i (pos 0)) = search rules in
     let number = to_z-of_z {w = w64} fits in
     code_asks c.loop-i.invariant c.places_of-place-items.ensures c.loop-i-test.true long number (odd_seen c.loop-i.marks)
 
@@ -40,8 +40,8 @@ hold-requires c =
 
 pub loop-i-preserved : goal.loop-i-preserved
 loop-i-preserved c =
-    let long : length c.args.fields.now.numbers ≡ places = search rules in
-    let fits : SFits w64 (get_or c.args.fields.now.numbers c.loop-i.i (pos 0)) = search rules in
+    let long : length c.args.numbers.now ≡ places = search rules in
+    let fits : SFits w64 (get_or c.args.numbers.now c.loop-i.i (pos 0)) = search rules in
     let number = to_z-of_z {w = w64} fits in
     let h = c.hold.ensures in
     let e = c.code.ensures in

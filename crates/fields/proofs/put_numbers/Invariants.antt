@@ -7,5 +7,5 @@ use Rattle.fields.proofs.put_numbers.Given as goal
 
 abbrev pub invariant-loop-i : goal.invariant-loop-i
 invariant-loop-i l =
-    WrittenSoFar l.from l.kind l.fields.minus l.fields.numbers (unpack l.initial.part) (after_held l.held (unpack l.part))
+    WrittenSoFar l.from l.kind l.minus l.numbers (unpack l.initial.part) (after_held l.held (unpack l.part))
     (l.held.at + l.held.count) l.marks l.i

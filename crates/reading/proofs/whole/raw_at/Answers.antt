@@ -14,6 +14,7 @@ unfolding pack filled
 returns-else-n-gt0 c =
     let a = c.args in
     let none : a.n ≡ 0 = omega arith in
-    rw none
+    c.requires.blank
+    ∙ rw none
     (sym (ap (λ (p : List Bool). put 0 (pack p) (replicate raw_bytes 0)) (cut_none a.from (true_bits a.part.phase a.part.bytes.now))
     ∙ put_none 0 (replicate raw_bytes 0)))
