@@ -9,7 +9,7 @@ use lib.ListN.{length}
 use borrow.Author.Tests.{lt-ltb, le-ltb, ltb-false}
 use Rattle.format.specs.declared.Refusal.TheVariants.{TooLong, BeyondBytes, BeyondCount}
 use Rattle.format.specs.Tests.{bit_limit, when, ◌then◌, above, count_tests, place_tests, Passes}
-use Rattle.format.proofs.Order.{then_pass, then_passed, when_pass, when_yes, when_no}
+use Rattle.format.proofs.Order.{then_pass, then_passed, when_pass, when_no}
 
 -- ---- 1, 2, as the code tests them
 module _ (bytes count : ℕ) where
