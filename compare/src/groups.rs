@@ -20,6 +20,7 @@ type Group = (&'static str, fn(&mut Run));
 pub const ALL: &[Group] = &[
     ("examples of document 01", examples::run),
     ("strings of every type at every offset", strings::every_type),
+    ("strings at the end of the bytes", strings::followed),
     ("ends of every range", strings::ends),
     ("every field's bits in a string", strings::field_bits),
     ("minus zeros", strings::minus_zeros),

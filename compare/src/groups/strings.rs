@@ -1,6 +1,7 @@
 //! Valid strings of every type, and strings whose fields hold any bits.
 
-use crate::make::{self, SHAPES, WITH_FIELDS};
+use crate::calls::{INVERTED, STRAIGHT};
+use crate::make::{self, complement, SHAPES, WITH_FIELDS};
 use crate::plain::{self, table};
 use crate::run::Run;
 use l1oc::Record;
@@ -35,6 +36,26 @@ pub fn every_type(run: &mut Run) {
                     _ => run.random.below(700),
                 };
                 there_and_back(run, &record, place);
+            }
+        }
+    }
+}
+
+/// A string that ends in the last lent byte, and the same one with bytes behind it: in either phase it reads as the same record.
+pub fn followed(run: &mut Run) {
+    for kind in 0..64 {
+        for offset in 0..8 {
+            let record = make::record(&mut run.random, kind);
+            let text = run.random.bits(offset) + &make::string_of(&record);
+            for behind in [vec![], vec![0; 8], vec![0xFF; 8], run.random.bytes(8)] {
+                let straight = [make::pack(&text), behind].concat();
+                let inverted = complement(&straight);
+                for (phase, bytes) in [(STRAIGHT, straight), (INVERTED, inverted)] {
+                    let given = run.read_in(phase, &bytes, text.len(), offset).given;
+                    run.require(given == record, || {
+                        println!("type {kind} reads otherwise: {given:?}");
+                    });
+                }
             }
         }
     }
