@@ -73,6 +73,7 @@ fn place_tests(bytes: &[u8], count: usize, place: usize) -> Result<(), Answer> {
 }
 
 /// Whether the check of the string of a type at a place passes.
+#[inline(always)]
 fn check_passes<const PHASE: u8>(bytes: &[u8], place: usize, kind: u8) -> bool {
     let end = place + layout::length(kind);
     let first = place / 8;

@@ -88,10 +88,13 @@ fn decode<const PHASE: u8>(
         let value = bits::field::<STRAIGHT>(&window, at, field.width);
         at += field.width as usize;
         if field.signed {
-            let sign = value >> (field.width - 1);
-            let magnitude = (value & !(1 << (field.width - 1))) as i64;
-            *number = if sign == 1 { -magnitude } else { magnitude };
-            r.minus |= Mark::from(sign == 1 && magnitude == 0) << i;
+            let minus_zero = 1 << (field.width - 1);
+            *number = if value < minus_zero {
+                value as i64
+            } else {
+                -((value - minus_zero) as i64)
+            };
+            r.minus |= Mark::from(value == minus_zero) << i;
         } else {
             *number = value as i64;
             refusals::range(10 + i, *number, field.least, field.most)?;

@@ -69,7 +69,7 @@ fn raw_clear(r: &Record) -> bool {
         0 => 0,
         rest => head[count / 8] << rest,
     };
-    filling == 0 && tail.iter().all(|&b| b == 0)
+    tail.iter().fold(filling, |seen, byte| seen | byte) == 0
 }
 
 /// Test 10.
