@@ -5,14 +5,14 @@ use mathlib.Core.Path.{◌≡◌, refl, sym, ap, ap₂, ◌∙◌, subst}
 use mathlib.Core.Bool.{Bool, true, false, cond, not}
 use mathlib.Core.List.{List}
 use mathlib.Core.Logic.{◌↔◌}
-use Prim.Native.Nat.{ℕ, zero, suc, ◌+◌, ◌*◌, ◌/◌, ◌%◌, ◌≤◌, ◌<◌}
+use Prim.Native.Nat.{ℕ, zero, suc, ◌+◌, ◌-◌, ◌*◌, ◌/◌, ◌%◌, ◌≤◌, ◌<◌, min}
 use native.Mathlib.Omega.{arith}
 use lib.Arith.{digits_div, digits_mod}
-use lib.ListN.{length, drop}
+use lib.ListN.{length, take, drop}
 use borrow.Author.Tests.{lt-ltb, le-ltb, ltb-false}
 use Rattle.bits.specs.declared.Phase.{Phase}
 use Rattle.bits.specs.Bits.{number, true_bits, recorded, cut, covered_bytes}
-use Rattle.bits.proofs.Phases.{length_true, length-recorded, cut-recorded, covered-bits}
+use Rattle.bits.proofs.Phases.{length_true, length-recorded, cut-recorded, cut_part, covered-bits}
 use Rattle.bits.proofs.Lists.{length-cut}
 use Rattle.bits.proofs.Numbers.{number_injective, number-cut-lt, number-cut_split}
 use Rattle.cyclic.specs.Poly.{Divides}
@@ -88,10 +88,13 @@ not-begins true n = absurd (n refl)
 not-begins false n = refl
 
 -- ---- the frame, from the first 18 bits
--- fetched from the bytes that they cover
-pub head_is : (φ : Phase) (s : List ℕ) (p : ℕ) {v : ℕ} {bytes : List ℕ} {ψ : Phase} → bytes ≡ covered_bytes p 18 s → ψ ≡ φ
+-- fetched from the eight bytes at the place, or fewer at the end
+pub head_is : (φ : Phase) (s : List ℕ) (p : ℕ) {v end : ℕ} {bytes : List ℕ} {ψ : Phase} → p + 18 ≤ 8 * length s
+    → end ≡ min (length s) (p / 8 + 8) → bytes ≡ take (end - p / 8) (drop (p / 8) s) → ψ ≡ φ
     → v ≡ number (cut (p % 8) 18 (true_bits ψ bytes)) → v ≡ number (cut p 18 (true_bits φ s))
-head_is φ s p eb eφ e = e ∙ ap number (ap₂ (λ (x : Phase) (y : List ℕ). cut (p % 8) 18 (true_bits x y)) eφ eb ∙ covered-bits s p 18 φ)
+head_is φ s p {end = end} h k eb eφ e =
+    e ∙ ap number (ap₂ (λ (x : Phase) (y : List ℕ). cut (p % 8) 18 (true_bits x y)) eφ eb
+    ∙ cut_part φ (p / 8) (end - p / 8) (p % 8) 18 p s (omega arith) (omega (arith, k)))
 
 module _ (φ : Phase) (s : List ℕ) (n p : ℕ) (h : n ≤ 8 * length s) where
   abbrev u : List Bool

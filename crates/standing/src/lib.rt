@@ -17,6 +17,7 @@ pub struct Frame {
 }
 
 // The frame at a place, or why there is none: fewer than 18 bits, no mark, a string that runs past the bit count.
+// Mark and type are cut from at most eight bytes, which a string that stands covers.
 pub fn frame_at(rec: Recording, place: usize) -> Result<Frame, Refusal>
     requires { place ≤ rec.count }
     ensures { result ≡ frame_at (bits_of rec.entry) place }
@@ -24,7 +25,9 @@ pub fn frame_at(rec: Recording, place: usize) -> Result<Frame, Refusal>
     if rec.count - place < 18 {
         return Err(Refusal::RunsOut(place));
     }
-    let head = rec.part.covering(place, 18).field(place % 8, 18);
+    let first = place / 8;
+    let end = rec.part.bytes.len().min(first + 8);
+    let head = rec.part.slice(first, end).field(place % 8, 18);
     if head / 64 != format::MARK {
         return Err(Refusal::NoMark(place));
     }
