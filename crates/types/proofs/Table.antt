@@ -4,14 +4,14 @@ use mathlib.Core.Bool.{Bool, true, false, not, beq, false≢true, and-eq-true_if
 use mathlib.Core.List.{List, [], ◌∷◌, ◌++◌}
 use Prim.Native.Nat.{ℕ, zero, suc, ◌-◌, ◌<◌, ◌≤◌}
 use native.Mathlib.Omega.{arith}
-use borrow.Author.Tests.{ltb-true, leb-true, not-true}
+use borrow.Author.Tests.{ltb-true, leb-true, not-true, eqb-false}
 use lib.Dec.{eqb, leb, ltb}
 use lib.ListN.{length, length-map, drop, replicate, get_or, get_or-append, get_or-map}
 use lib.Seq.{drop-append_seam}
 use Rattle.std.specs.List.{list_all}
 use Rattle.format.specs.Fields.{Field, absent, width, is_absent, total}
 use Rattle.format.specs.Types.{typed, find, places, places_of}
-use Rattle.format.proofs.Information.{every, every_head, every_place, every_type, padded}
+use Rattle.format.proofs.Information.{every, every_head, every_at, every_place, every_type, padded, places-from}
 use Rattle.types.specs.declared.rows.Place.{Place}
 use Rattle.types.specs.Rows.{place_of, no_place, Describes, narrow}
 
@@ -101,3 +101,14 @@ module _ {kind : ℕ} {table : List Place} (d : Describes kind table) where
 
   pub none_past : total (drop (length table) (places_of kind)) ≡ 0
   none_past = ap total drop_used ∙ total_absent (places - length table)
+
+  -- a type without fields has no bits of them, and one with fields has some
+  pub no_bits : length table ≡ 0 → total (places_of kind) ≡ 0
+  no_bits e = ap (λ (n : ℕ). total (drop n (places_of kind))) (sym e) ∙ none_past
+
+  pub some_bits : 0 < length table → 0 < total (places_of kind)
+  some_bits h =
+      let f = get_or (places_of kind) 0 absent in
+      let used : eqb (width f) 0 ≡ false =
+      width_tells f (every_at wide (places_of kind) 0 refl (all_wide kind)) ∙ used_at 0 h in
+      omega (arith, eqb-false (width f) 0 used, ap total (places-from kind 0 (omega (arith, few_used))))

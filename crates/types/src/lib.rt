@@ -46,15 +46,14 @@ pub fn check_count(kind: u8) -> usize
     generator_of(kind).degree
 }
 
-// The raw bits of a type.
+// The raw bits of a type: all between the service fields and the check bits, where it has no fields.
 pub fn raw_count(kind: u8) -> usize
     ensures { result ≡ raw_count kind }
 {
-    match kind {
-        1 => 59,
-        2 => 301,
-        10 | 11 | 12 | 20 | 25 => 0,
-        _ => 184,
+    if places_of(kind).is_empty() {
+        length_of(kind) - 50 - check_count(kind)
+    } else {
+        0
     }
 }
 

@@ -1,29 +1,27 @@
--- `types::raw_count`: computed for each type that is named, and for the others. Assumes nothing.
-use borrow.Author.Rules.{rules}
-use Rattle.format.specs.Strings.{length_of, generator_of}
-use Rattle.format.specs.Types.{places_of, raw_count}
+-- `types::raw_count`: a type without fields has raw bits in their place, and one with fields has none. Assumes nothing.
+use mathlib.Core.Path.{◌≡◌, sym, ◌∙◌}
+use mathlib.Core.Logic.{inl, inr}
+use Prim.Native.Nat.{◌<◌}
+use native.Mathlib.Omega.{arith}
+use lib.ListN.{length}
+use borrow.Author.Tests.{eqb-true, eqb-false}
+use Rattle.format.proofs.Information.{fields-or_raw, string-filled}
+use Rattle.types.proofs.Table.{no_bits, some_bits}
 use Rattle.types.proofs.raw_count.Goals as goal
 
-pub returns-in-1 : goal.returns-in-1
-unfolding raw_count places_of length_of generator_of
-returns-in-1 c = search rules
+pub overflow_sub-result : goal.overflow_sub-result
+overflow_sub-result c = omega (arith, string-filled c.args.kind, c.length_of.ensures)
 
-pub returns-in-2 : goal.returns-in-2
-unfolding raw_count places_of length_of generator_of
-returns-in-2 c = search rules
+pub overflow_sub-result-then-is_empty : goal.overflow_sub-result-then-is_empty
+overflow_sub-result-then-is_empty c = omega (arith, string-filled c.args.kind, c.length_of.ensures, c.check_count.ensures)
 
-pub returns-in_default : goal.returns-in_default
-unfolding raw_count places_of length_of generator_of
-returns-in_default c = search rules
+pub returns-then-is_empty : goal.returns-then-is_empty
+returns-then-is_empty c =
+    let none : length c.places_of.result.now ≡ 0 = eqb-true _ 0 (sym c.is_empty.ensures ∙ c.if-is_empty.true) in
+    omega (arith, string-filled c.args.kind, no_bits c.places_of.ensures none, c.length_of.ensures, c.check_count.ensures)
 
-pub returns-in_default-2 : goal.returns-in_default-2
-unfolding raw_count places_of length_of generator_of
-returns-in_default-2 c = search rules
-
-pub returns-in-10 : goal.returns-in-10
-unfolding raw_count places_of length_of generator_of
-returns-in-10 c = search rules
-
-pub returns-in-10-2 : goal.returns-in-10-2
-unfolding raw_count places_of length_of generator_of
-returns-in-10-2 c = search rules
+pub returns-else-is_empty : goal.returns-else-is_empty
+returns-else-is_empty c =
+    let some : 0 < length c.places_of.result.now =
+    omega (arith, eqb-false (length c.places_of.result.now) 0 (sym c.is_empty.ensures ∙ c.if-is_empty.false)) in
+    elim (fields-or_raw c.args.kind) [ inl e ↦ absurd (omega (arith, e, some_bits c.places_of.ensures some)) | inr e ↦ sym e ]
