@@ -2,6 +2,7 @@
 use mathlib.Core.Path.{◌≡◌, refl, sym, ap, ap₂, ◌∙◌}
 use mathlib.Core.Bool.{Bool, true, false, true≢false, ◌&&◌}
 use mathlib.Core.List.{List, [], ◌∷◌}
+use mathlib.Core.Logic.{inl, inr}
 use Prim.Native.Nat.{ℕ, suc, ◌+◌, ◌-◌, ◌*◌, ◌%◌, ◌^◌, ◌≤◌, ◌<◌}
 use native.Mathlib.Nat.{mul_assoc, mul_comm, mul-add}
 use native.Mathlib.Numerals.{add-one}
@@ -19,9 +20,9 @@ use Rattle.bits.proofs.Lists.{length-cut, put_same, put-cons, put_whole}
 use Rattle.bits.proofs.Numbers.{bits_back, number-cut-lt}
 use Rattle.format.specs.Fields.{Field, widest, unsigned, signed, absent, width, is_signed, total, value, marked, values, minus_zeros}
 use Rattle.format.specs.Records.{mark_of}
-use Rattle.format.specs.Types.{places, mark_width, places_of}
+use Rattle.format.specs.Types.{places, mark_width, places_of, raw_count}
 use Rattle.format.proofs.Information.{every, every_head, every_at, every_drop, marks_cover, length_information, widths, length-values}
-use Rattle.format.proofs.Information.{length-minus_zeros, mark_of-lt, places-from}
+use Rattle.format.proofs.Information.{length-minus_zeros, mark_of-lt, places-from, fields-or_raw}
 use Rattle.types.proofs.Table.{wide, all_wide, width_tells, place_at, few_used, used_at, none_past}
 use Rattle.types.specs.declared.rows.Place.{Place}
 use Rattle.types.specs.Rows.{no_place, Describes}
@@ -97,6 +98,17 @@ none_left (unsigned w a b k ∷ fs) p e z =
 none_left (signed w k ∷ fs) p e z =
     let q : eqb w 0 ≡ true = eq-eqb w 0 (omega arith) in
     absurd (true≢false (sym q ∙ width_tells (signed w k) (every_head wide (signed w k) fs e).0))
+
+-- a type that has raw bits has no fields: what is blank is theirs
+pub no_fields : (kind : ℕ) (p : List Bool) {numbers : List ℤ} {minus : ℕ} → (raw_count kind ≡ 0 → ⊥)
+    → numbers ≡ replicate places (pos 0) → minus ≡ 0 → Decoded kind p numbers minus
+no_fields kind p raw blank unmarked =
+    let none : total (places_of kind) ≡ 0 = elim (fields-or_raw kind) [ inl e ↦ e | inr e ↦ absurd (raw e) ] in
+    let n = none_left (places_of kind) p (all_wide kind) none in
+    record {
+      numbers = blank ∙ sym (n.0 ∙ ap (λ (k : ℕ). replicate k (pos 0)) (length_information kind));
+      mark = unmarked ∙ sym n.1;
+    }
 
 module _ {u : List Bool} {from kind : ℕ} {numbers : List ℤ} {minus at i : ℕ} (c : ReadSoFar u from kind numbers minus at i) where
   -- all fields

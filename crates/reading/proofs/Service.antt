@@ -7,7 +7,8 @@ use native.Mathlib.Omega.{arith}
 use lib.IntN.{ℤ}
 use lib.ListN.{length, take, drop, replicate}
 use lib.Seq.{take-take}
-use Rattle.bits.specs.Bits.{number, cut, put, pack}
+use Rattle.bits.specs.Bits.{number, cut, put, pack, filled}
+use Rattle.bits.proofs.Lists.{cut_none, put_none}
 use Rattle.bits.proofs.Numbers.{number_piece}
 use Rattle.format.specs.declared.Record.{Record}
 use Rattle.format.specs.Fields.{values, minus_zeros}
@@ -17,6 +18,15 @@ use Rattle.format.specs.Strings.{string_bits, type_at, length_of, check_bits}
 use Rattle.format.specs.Types.{places_of, raw_count}
 use Rattle.format.proofs.Agree.{length_unit}
 use Rattle.format.proofs.Information.{string-filled, values-take, minus_zeros-take}
+
+-- no raw bits make no bytes
+pub no_raw : (u : List Bool) (from : ℕ) {n : ℕ} {raw : List ℕ} → n ≡ 0 → raw ≡ replicate raw_bytes 0
+    → raw ≡ put 0 (pack (cut from n u)) (replicate raw_bytes 0)
+unfolding pack filled
+no_raw u from none blank =
+    blank
+    ∙ rw none
+    (sym (ap (λ (p : List Bool). put 0 (pack p) (replicate raw_bytes 0)) (cut_none from u) ∙ put_none 0 (replicate raw_bytes 0)))
 
 module _ (u : List Bool) (o : ℕ) (h : o + length_of (type_at u o) ≤ length u) where
   pub service-room : o + 50 ≤ length u

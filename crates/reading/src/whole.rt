@@ -1,15 +1,14 @@
 // A string by just the bytes that it covers.
-ghost use Rattle.std.specs.Prelude.{◌≡◌, ◌+◌, ◌*◌, ◌^◌, ◌<◌, ◌≤◌, length, replicate};
-ghost use Rattle.bits.specs.Bits.{true_bits, cut, put, Covers, pack};
+ghost use Rattle.std.specs.Prelude.{◌≡◌};
+ghost use Rattle.bits.specs.Bits.{true_bits, Covers};
 ghost use Rattle.format.specs.Reading.{record_at};
-ghost use Rattle.format.specs.Records.{raw_bytes, blank};
+ghost use Rattle.format.specs.Records.{blank};
 ghost use Rattle.format.specs.Strings.{type_at, length_of};
-ghost use Rattle.format.specs.Types.{most_raw};
 ghost use Rattle.reading.specs.Checked.{checked};
 ghost use Rattle.reading.specs.Reads.{Reads};
 
 use bits::Part;
-use format::{RAW_BYTES, Record, Refusal};
+use format::{Record, Refusal};
 use standing::Frame;
 
 // The bytes that a string covers, the bit of the first of them at which it begins, its type and its length.
@@ -23,19 +22,8 @@ pub struct Whole<'a> {
     pub ghost long: { frame.long ≡ length_of frame.kind },
 }
 
-// Sets blank raw bytes to the `n` true bits from the place `from` on; most types have none.
-fn raw_at(part: Part, from: usize, n: usize, raw: &mut [u8; RAW_BYTES])
-    requires room { (n ≤ most_raw) × (from + n ≤ 8 * length part.bytes.now) × (from + n < 2 ^ 63) }
-    requires blank { raw.old ≡ replicate raw_bytes 0 }
-    ensures { raw.new ≡ put 0 (pack (cut from n (true_bits part.entry.phase part.entry.bytes.now))) (replicate raw_bytes 0) }
-{
-    if n > 0 {
-        puts::pack_bits(raw, part, from, n);
-    }
-}
-
 impl<'a> Whole<'a> {
-    // Makes a blank record that of the string.
+    // Makes a blank record that of the string. A type that has raw bits has no fields.
     fn decode(self, r: &mut Record)
         requires { r.old ≡ blank }
         ensures { r.new ≡ record_at (true_bits self.entry.part.phase self.entry.part.bytes.now) self.entry.offset }
@@ -53,8 +41,12 @@ impl<'a> Whole<'a> {
         r.correction = ((service >> 17) % 4) as u8;
         r.next = ((service >> 16) % 2) as u8;
         r.time = service % 65536;
-        fields::numbers_at(part, information, kind, &mut r.numbers, &mut r.minus);
-        raw_at(part, information, types::raw_count(kind), &mut r.raw);
+        let raw = types::raw_count(kind);
+        if raw == 0 {
+            fields::numbers_at(part, information, kind, &mut r.numbers, &mut r.minus);
+        } else {
+            puts::pack_bits(&mut r.raw, part, information, raw);
+        }
     }
 
     // The tests 6, 7, 8; where they pass, a blank record is made that of the string. A refusal by 6 names the place.

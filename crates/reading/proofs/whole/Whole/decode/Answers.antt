@@ -1,19 +1,26 @@
--- `reading::whole::Whole::decode`: the pieces of the service bits, the numbers and the raw bytes make the record. Assumes nothing.
-use mathlib.Core.Path.{◌≡◌, ap, ◌∙◌}
+-- `reading::whole::Whole::decode`: the pieces of the service bits, and the numbers or the raw bytes, make the record. Assumes nothing.
+use mathlib.Core.Path.{ap, ◌∙◌}
 use mathlib.Core.Bool.{Bool}
 use mathlib.Core.List.{List}
-use Prim.Native.Nat.{ℕ, ◌+◌, ◌*◌, ◌≤◌}
+use Prim.Native.Nat.{ℕ, ◌+◌, ◌≤◌}
 use native.Mathlib.Omega.{arith}
-use lib.ListN.{length, replicate}
+use lib.ListN.{length, drop, replicate}
 use Rattle.bits.proofs.Phases.{length_true}
 use Rattle.bits.specs.Bits.{true_bits, cut, put, pack}
+use Rattle.fields.proofs.Decoding.{no_fields}
 use Rattle.format.proofs.Agree.{length_unit}
 use Rattle.format.proofs.Information.{string-filled, raw_few}
 use Rattle.format.specs.declared.Record.{Record}
 use Rattle.format.specs.Records.{raw_bytes, blank}
 use Rattle.format.specs.Strings.{type_at, length_of}
-use Rattle.reading.proofs.Service.{decoded_is}
+use Rattle.reading.specs.declared.whole.Whole.{Whole}
+use Rattle.reading.proofs.Service.{no_raw, decoded_is}
 use Rattle.reading.proofs.whole.Whole.decode.Goals as goal
+
+-- the string lies in the part
+inside : (q : Whole) → q.offset + length_of (type_at (true_bits q.part.phase q.part.bytes.now) q.offset)
+    ≤ length (true_bits q.part.phase q.part.bytes.now)
+inside q = omega (arith, q.covers.last, q.long, ap length_of q.kind, length_true q.part.phase q.part.bytes.now)
 
 pub field-service-requires : goal.field-service-requires
 field-service-requires c =
@@ -31,28 +38,34 @@ pub numbers_at-requires-clause-blank : goal.numbers_at-requires-clause-blank
 unfolding blank
 numbers_at-requires-clause-blank c = (ap (λ (r : Record). r.numbers) c.requires, ap (λ (r : Record). r.minus) c.requires)
 
-pub raw_at-requires-clause-blank : goal.raw_at-requires-clause-blank
+pub pack_bits-requires : goal.pack_bits-requires
 unfolding blank
-raw_at-requires-clause-blank c = ap (λ (r : Record). r.raw) c.requires
-
-pub raw_at-requires-clause-room : goal.raw_at-requires-clause-room
-raw_at-requires-clause-room c =
+pack_bits-requires c =
     let q = c.args.self in
     let f = string-filled q.frame.kind in
     let l = length_unit q.frame.kind in
-    let n = c.raw_count.ensures in (
-      omega (arith, raw_few q.frame.kind, n),
+    let n = c.raw_count-raw.ensures in (
+      omega (arith, raw_few q.frame.kind, n, ap (λ (r : Record). length r.raw) c.requires),
       omega (arith, f, n, q.long, q.covers.last),
       omega (arith, f, n, q.long, l, q.covers.first),
     )
 
-pub returns : goal.returns
-returns c =
+pub returns-then-raw-eq0 : goal.returns-then-raw-eq0
+unfolding blank
+returns-then-raw-eq0 c =
     let q = c.args.self in
     let u : List Bool = true_bits q.part.phase q.part.bytes.now in
-    let bits : length u ≡ 8 * length q.part.bytes.now = length_true q.part.phase q.part.bytes.now in
-    let inside : q.offset + length_of (type_at u q.offset) ≤ length u =
-    omega (arith, q.covers.last, q.long, ap length_of q.kind, bits) in
-    decoded_is u q.offset inside _ c.field-service.ensures _ _ _ _ q.kind c.numbers_at.ensures.numbers
-    c.numbers_at.ensures.mark
-    (c.raw_at.ensures ∙ ap (λ (m : ℕ). put 0 (pack (cut (q.offset + 50) m u)) (replicate raw_bytes 0)) c.raw_count.ensures)
+    decoded_is u q.offset (inside q) _ c.field-service.ensures _ _ _ _ q.kind c.numbers_at.ensures.numbers c.numbers_at.ensures.mark
+    (no_raw u (q.offset + 50) (omega (arith, c.raw_count-raw.ensures)) (ap (λ (r : Record). r.raw) c.requires))
+
+pub returns-else-raw-eq0 : goal.returns-else-raw-eq0
+unfolding blank
+returns-else-raw-eq0 c =
+    let q = c.args.self in
+    let u : List Bool = true_bits q.part.phase q.part.bytes.now in
+    let d = no_fields q.frame.kind (drop (q.offset + 50) u) (λ e. omega (arith, e, c.raw_count-raw.ensures)) (ap (λ (r : Record). r.numbers) c.requires)
+    (ap (λ (r : Record). r.minus) c.requires) in
+    decoded_is u q.offset (inside q) _ c.field-service.ensures _ _ _ _ q.kind d.numbers d.mark
+    (c.pack_bits.ensures
+    ∙ rw (ap (λ (r : Record). r.raw) c.requires)
+    (ap (λ (m : ℕ). put 0 (pack (cut (q.offset + 50) m u)) (replicate raw_bytes 0)) c.raw_count-raw.ensures))
