@@ -8,7 +8,7 @@ ghost use Rattle.reading.specs.Checked.{checked};
 ghost use Rattle.reading.specs.Reads.{Reads};
 
 use bits::Part;
-use format::{Record, Refusal};
+use format::{Record, Refusal, SERVICE_END};
 use standing::Frame;
 
 // The bytes that a string covers, the bit of the first of them at which it begins, its type and its length.
@@ -31,7 +31,7 @@ impl<'a> Whole<'a> {
         let part = self.part;
         let kind = self.frame.kind;
         let service = part.field(self.offset + 18, 32);
-        let information = self.offset + 50;
+        let information = self.offset + SERVICE_END;
         r.kind = kind;
         r.satellite = ((service >> 26) % 64) as u8;
         r.signal = ((service >> 25) % 2) as u8;

@@ -14,7 +14,7 @@ ghost use Rattle.report.specs.Lines.{Within, Inside};
 ghost use Rattle.report.specs.Sizes.{bytes_most, report_most};
 
 use bits::{Part, Phase};
-use format::Limits;
+use format::{Limits, SERVICE_END};
 use text::Text;
 
 // The most starts that a recording within the limit has, and one more; each string has at least 125 bits.
@@ -72,7 +72,7 @@ fn line_numbers(rec: &[u8], place: usize) -> [u32; text::ROW]
         bytes: rec,
         phase: Phase::Straight,
     };
-    let part = whole.covering(place, 50).bytes;
+    let part = whole.covering(place, SERVICE_END).bytes;
     let [kind, satellite, correction, next, time] = service_numbers(part, place % 8);
     let result = result_at(rec, place);
     [

@@ -51,7 +51,7 @@ pub fn raw_count(kind: u8) -> usize
     ensures { result ≡ raw_count kind }
 {
     if places_of(kind).is_empty() {
-        length_of(kind) - 50 - check_count(kind)
+        length_of(kind) - format::SERVICE_END - check_count(kind)
     } else {
         0
     }

@@ -11,7 +11,7 @@ ghost use Rattle.format.specs.Types.{most_raw};
 ghost use Rattle.format.specs.Writing.{service_bits, string, with_bits, WritePromise};
 
 use bits::{Part, Phase};
-use format::{RAW_BYTES, Record, Refusal};
+use format::{RAW_BYTES, Record, Refusal, SERVICE_END};
 
 // A lent record that passes its tests.
 #[derive(Clone, Copy)]
@@ -55,8 +55,8 @@ fn put_string(part: &mut [u8], offset: usize, r: &Record)
     let degree = types::check_count(kind);
     let count = types::length_of(kind) - degree;
     let n = types::raw_count(kind);
-    puts::put_field(part, offset, 50, (format::MARK << 38) + service(r));
-    fields::put_numbers(part, offset + 50, kind, &r.numbers, r.minus);
+    puts::put_field(part, offset, SERVICE_END, (format::MARK << 38) + service(r));
+    fields::put_numbers(part, offset + SERVICE_END, kind, &r.numbers, r.minus);
     put_raw(part, offset + count - n, r.raw, n);
     let c = types::check(part, offset, count, kind);
     puts::put_field(part, offset + count, degree, u64::from(c));
