@@ -4,7 +4,7 @@ use mathlib.Core.Bool.{Bool}
 use mathlib.Core.List.{List}
 use Prim.Native.Nat.{ℕ, ◌+◌, ◌-◌, ◌/◌, ◌%◌, ◌^◌, ◌≤◌}
 use native.Mathlib.Omega.{arith}
-use lib.IntN.{ℤ}
+use lib.IntN.{ℤ, pos}
 use lib.ListN.{length, take, drop, replicate}
 use lib.Seq.{take-take}
 use Rattle.bits.specs.Bits.{number, cut, put, pack, filled}
@@ -13,11 +13,16 @@ use Rattle.bits.proofs.Numbers.{number_piece}
 use Rattle.format.specs.declared.Record.{Record}
 use Rattle.format.specs.Fields.{values, minus_zeros}
 use Rattle.format.specs.Reading.{information_bits, record_at}
-use Rattle.format.specs.Records.{raw_bytes, mark_of}
+use Rattle.format.specs.Records.{raw_bytes, mark_of, blank}
 use Rattle.format.specs.Strings.{string_bits, type_at, length_of, check_bits}
-use Rattle.format.specs.Types.{places_of, raw_count}
+use Rattle.format.specs.Types.{places, places_of, raw_count}
 use Rattle.format.proofs.Agree.{length_unit}
 use Rattle.format.proofs.Information.{string-filled, values-take, minus_zeros-take}
+
+-- what a blank record holds
+pub blank_parts : {r : Record} → r ≡ blank → (r.numbers ≡ replicate places (pos 0)) × (r.minus ≡ 0) × (r.raw ≡ replicate raw_bytes 0)
+unfolding blank
+blank_parts e = (ap (λ (r : Record). r.numbers) e, ap (λ (r : Record). r.minus) e, ap (λ (r : Record). r.raw) e)
 
 -- no raw bits make no bytes
 pub no_raw : (u : List Bool) (from : ℕ) {n : ℕ} {raw : List ℕ} → n ≡ 0 → raw ≡ replicate raw_bytes 0
