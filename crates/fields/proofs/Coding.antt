@@ -21,11 +21,10 @@ use Rattle.format.specs.Fields.{Field, widest, unsigned, signed, absent, width, 
 use Rattle.format.specs.Records.{mark_bits, unused, overfilled, stray, field_tests, record_tests}
 use Rattle.format.specs.Types.{places, mark_width, places_of}
 use Rattle.format.proofs.Information.{every, every_head, every_at, every_drop, marks_cover, length_information, widths}
-use Rattle.format.proofs.Information.{places-from}
 use Rattle.format.proofs.Order.{then_pass, when_pass}
 use Rattle.format.proofs.Writing.{ranged}
 use Rattle.format.proofs.FieldLaws.{or_left, sound, Passes, information_sound, length-code, value_code_lem, Fits, fits, length-mark_bits}
-use Rattle.types.proofs.Table.{place_at, few_used, none_past}
+use Rattle.types.proofs.Table.{few_used, width_at, sign_at, narrow_at, next_at, none_past}
 use Rattle.types.specs.declared.rows.Place.{Place}
 use Rattle.types.specs.Rows.{no_place, Describes}
 use Rattle.fields.specs.Coded.{code_of, Tested}
@@ -150,27 +149,12 @@ module _ {from kind minus : ℕ} {numbers : List ℤ} {u₀ u : List Bool} {at m
     abbrev w : ℕ
     w = (get_or table i no_place).width
 
-    abbrev s : Bool
-    s = (get_or table i no_place).signed
-
     l : i < places
     l = omega (arith, few_used d)
 
-    width_is : w ≡ width f
-    width_is = ap (λ (p : Place). p.width) (place_at d i)
-
-    sign_is : s ≡ is_signed f
-    sign_is = ap (λ (p : Place). p.signed) (place_at d i)
-
-    fields-here : drop i (places_of kind) ≡ f ∷ drop (i + 1) (places_of kind)
-    fields-here = places-from kind i l
-
-    -- it is narrow, and lies in the bits
-    pub narrow_here : (get_or table i no_place).width ≤ widest
-    narrow_here = omega (arith, width_is, (widths kind i).0)
-
+    -- it lies in the bits
     pub room-here : at + (get_or table i no_place).width ≤ from + total (places_of kind)
-    room-here = omega (arith, c.place, ap total fields-here, width_is)
+    room-here = omega (arith, c.place, ap total (next_at d i h), width_at d i)
 
     -- its number and its bit of the mark
     module _ (ln : length numbers ≡ places) {v : ℤ} {m : Bool} (ev : v ≡ get_or numbers i (pos 0)) (em : m ≡ odd marks) where
@@ -184,7 +168,7 @@ module _ {from kind minus : ℕ} {numbers : List ℤ} {u₀ u : List Bool} {at m
           ap (λ (k : ℕ). mark_bits k marks) e ∙ ap (λ (b : Bool). b ∷ mark_bits (mark_width - (i + 1)) (marks / 2)) (sym em)
 
       here : Passes f v m × Fits (drop (i + 1) (places_of kind)) (drop (i + 1) numbers) (mark_bits (mark_width - (i + 1)) (marks / 2))
-      here = fit_head (fit_same fields-here numbers-here marks_here c.fit)
+      here = fit_head (fit_same (next_at d i h) numbers-here marks_here c.fit)
 
       sound_here : sound f ≡ true
       sound_here = every_at sound (places_of kind) i refl (information_sound kind)
@@ -193,27 +177,27 @@ module _ {from kind minus : ℕ} {numbers : List ℤ} {u₀ u : List Bool} {at m
       signed_size : is_signed f ≡ true → (2 ≤ w) × (nat_abs v < 2 ^ (w - 1))
       signed_size e =
           let z = size_signed f v m sound_here here.0 e in
-          (omega (arith, (widths kind i).1 e, width_is), omega (arith, z, ap (λ (n : ℕ). 2 ^ (n - 1)) width_is))
+          (omega (arith, (widths kind i).1 e, width_at d i), omega (arith, z, ap (λ (n : ℕ). 2 ^ (n - 1)) (width_at d i)))
 
       unsigned_size : is_signed f ≡ false → (v ≡ pos (nat_abs v)) × (nat_abs v < 2 ^ w)
       unsigned_size e =
           let z = size_unsigned f v m sound_here here.0 e in
-          (z.0, omega (arith, z.1, ap (λ (n : ℕ). 2 ^ n) width_is))
+          (z.0, omega (arith, z.1, ap (λ (n : ℕ). 2 ^ n) (width_at d i)))
 
       pub code_asks : ((get_or table i no_place).width ≤ widest)
           × ((get_or table i no_place).signed ≡ true
           → (2 ≤ (get_or table i no_place).width) × (nat_abs v < 2 ^ ((get_or table i no_place).width - 1)))
           × ((get_or table i no_place).signed ≡ false → (v ≡ pos (nat_abs v)) × (nat_abs v < 2 ^ (get_or table i no_place).width))
-      code_asks = (narrow_here, (λ e. signed_size (sym sign_is ∙ e)), (λ e. unsigned_size (sym sign_is ∙ e)))
+      code_asks = (narrow_at d i, (λ e. signed_size (sym (sign_at d i) ∙ e)), (λ e. unsigned_size (sym (sign_at d i) ∙ e)))
 
       -- its bits
-      module _ (field : FieldBits) (at_place : (field.signed ≡ s) × (field.width ≡ w))
+      module _ (field : FieldBits) (at_place : (field.signed ≡ (get_or table i no_place).signed) × (field.width ≡ w))
           (ex : field.word ≡ number (code_of (get_or table i no_place).signed (get_or table i no_place).width v m)) where
         as_wide : field.width ≡ width f
-        as_wide = at_place.1 ∙ width_is
+        as_wide = at_place.1 ∙ width_at d i
 
         x_is : field.word ≡ number (code f v m)
-        x_is = ex ∙ ap₂ (λ (b : Bool) (k : ℕ). number (code_of b k v m)) sign_is width_is ∙ ap number (code_of_lem f v m)
+        x_is = ex ∙ ap₂ (λ (b : Bool) (k : ℕ). number (code_of b k v m)) (sign_at d i) (width_at d i) ∙ ap number (code_of_lem f v m)
 
         long : length (code f v m) ≡ field.width
         long = length-code f v m sound_here ∙ sym as_wide
@@ -228,7 +212,7 @@ module _ {from kind minus : ℕ} {numbers : List ℤ} {u₀ u : List Bool} {at m
         codes-here : codes (drop i (places_of kind)) (drop i numbers) (mark_bits (mark_width - i) marks) ≡ code f v m ++ more
         unfolding codes
         codes-here =
-            ap (λ (fs : List Field). codes fs (drop i numbers) (mark_bits (mark_width - i) marks)) fields-here
+            ap (λ (fs : List Field). codes fs (drop i numbers) (mark_bits (mark_width - i) marks)) (next_at d i h)
             ∙ ap₂ (λ (vs : List ℤ) (ms : List Bool). codes (f ∷ drop (i + 1) (places_of kind)) vs ms) numbers-here marks_here
 
         pub written_on : {z : List Bool} {n : ℕ} → z ≡ put at (bits field.width field.word) u → n ≡ at + field.width
@@ -236,7 +220,7 @@ module _ {from kind minus : ℕ} {numbers : List ℤ} {u₀ u : List Bool} {at m
         written_on {z} e e' =
             let rest = drop (i + 1) (places_of kind) in
             let lm : length more ≡ total rest = length_fit (every_drop sound (places_of kind) (i + 1) (information_sound kind)) here.1 in
-            let sum = ap total fields-here in
+            let sum = ap total (next_at d i h) in
             let lz : length z ≡ length u =
             ap length e ∙ length-put at (bits field.width field.word) u
             (omega (arith, room-here, at_place.1, c.room, length-bits field.width field.word)) in

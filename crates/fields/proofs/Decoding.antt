@@ -12,18 +12,18 @@ use lib.IntN.{ℤ, pos}
 use lib.ListN.{length, length-set, length-drop, length-replicate, take, drop, replicate, get_or, set}
 use lib.Pow.{pow-add, pow_mono}
 use lib.Seq.{take_all, drop-cons, drop-drop, drop-set-lt}
-use borrow.Author.Tests.{eqb-false, eq-eqb}
+use borrow.Author.Tests.{eq-eqb}
 use Rattle.std.proofs.lemmas.Nat.{one_shl}
 use Rattle.bits.specs.Bits.{bit, number, bits, cut, put}
 use Rattle.bits.specs.Signed.{signed_of, is_minus_zero}
 use Rattle.bits.proofs.Lists.{length-cut, put_same, put-cons, put_whole}
 use Rattle.bits.proofs.Numbers.{bits_back, number-cut-lt}
-use Rattle.format.specs.Fields.{Field, widest, unsigned, signed, absent, width, is_signed, total, value, marked, values, minus_zeros}
+use Rattle.format.specs.Fields.{Field, unsigned, signed, absent, width, is_signed, total, value, marked, values, minus_zeros}
 use Rattle.format.specs.Records.{mark_of}
 use Rattle.format.specs.Types.{places, mark_width, places_of, raw_count}
-use Rattle.format.proofs.Information.{every, every_head, every_at, every_drop, marks_cover, length_information, widths, length-values}
-use Rattle.format.proofs.Information.{length-minus_zeros, mark_of-lt, places-from, fields-or_raw}
-use Rattle.types.proofs.Table.{wide, all_wide, width_tells, place_at, few_used, used_at, none_past}
+use Rattle.format.proofs.Information.{every, every_head, every_drop, marks_cover, length_information, length-values}
+use Rattle.format.proofs.Information.{length-minus_zeros, mark_of-lt, fields-or_raw}
+use Rattle.types.proofs.Table.{wide, all_wide, width_tells, few_used, width_at, sign_at, next_at, none_past}
 use Rattle.types.specs.declared.rows.Place.{Place}
 use Rattle.types.specs.Rows.{no_place, Describes}
 use Rattle.fields.specs.Decoded.{number_of, Decoded}
@@ -143,39 +143,15 @@ module _ {u : List Bool} {from kind : ℕ} {numbers : List ℤ} {minus at i : �
     abbrev w : ℕ
     w = (get_or table i no_place).width
 
-    abbrev s : Bool
-    s = (get_or table i no_place).signed
-
     l : i < places
     l = omega (arith, few_used d)
 
-    width_is : w ≡ width f
-    width_is = ap (λ (p : Place). p.width) (place_at d i)
-
-    sign_is : s ≡ is_signed f
-    sign_is = ap (λ (p : Place). p.signed) (place_at d i)
-
-    next : drop i (places_of kind) ≡ f ∷ drop (i + 1) (places_of kind)
-    next = places-from kind i l
-
-    -- the mark has a bit for it; it has bits, is narrow, and lies in the bits
+    -- the mark has a bit for it, and it lies in the bits
     pub mark-place : i < mark_width
     mark-place = omega (arith, l, marks_cover)
 
-    pub some_here : 0 < (get_or table i no_place).width
-    some_here =
-        let e : eqb (width f) 0 ≡ false =
-        width_tells f (every_at wide (places_of kind) i refl (all_wide kind)) ∙ used_at d i h in
-        omega (arith, width_is, eqb-false (width f) 0 e)
-
-    pub width-here : (get_or table i no_place).width ≤ widest
-    width-here = omega (arith, width_is, (widths kind i).0)
-
-    pub signed-here : (get_or table i no_place).signed ≡ true → 2 ≤ (get_or table i no_place).width
-    signed-here t = omega (arith, width_is, (widths kind i).1 (sym sign_is ∙ t))
-
     pub inside_here : at + (get_or table i no_place).width ≤ from + total (places_of kind)
-    inside_here = omega (arith, c.place, ap total next, width_is)
+    inside_here = omega (arith, c.place, ap total (next_at d i h), width_at d i)
 
     -- its bits are read
     module _ (k : from + total (places_of kind) ≤ length u) {x : ℕ} (ex : x ≡ number (cut at ((get_or table i no_place).width) u)) where
@@ -183,28 +159,28 @@ module _ {u : List Bool} {from kind : ℕ} {numbers : List ℤ} {minus at i : �
       small_here = rw ex (number-cut-lt at w u (omega (arith, inside_here)))
 
       room : at + width f ≤ length u
-      room = omega (arith, inside_here, width_is)
+      room = omega (arith, inside_here, width_at d i)
 
       x_is : x ≡ number (cut at (width f) u)
-      x_is = ex ∙ ap (λ (k : ℕ). number (cut at k u)) width_is
+      x_is = ex ∙ ap (λ (k : ℕ). number (cut at k u)) (width_at d i)
 
       on : drop (width f) (drop at u) ≡ drop (at + w) u
-      on = drop-drop (width f) at u ∙ ap (λ (k : ℕ). drop (at + k) u) (sym width_is)
+      on = drop-drop (width f) at u ∙ ap (λ (k : ℕ). drop (at + k) u) (sym (width_at d i))
 
       module _ {v : ℤ} {m : ℕ} (ev : v ≡ number_of (get_or table i no_place).signed (get_or table i no_place).width x)
           (em : m ≡ minus + bit ((get_or table i no_place).signed && is_minus_zero (bits (get_or table i no_place).width x)) * 2 ^ i) where
         v_is : v ≡ value f (take (width f) (drop at u))
-        v_is = ev ∙ ap₂ (λ (b : Bool) (k : ℕ). number_of b k x) sign_is width_is ∙ number-here f u at x room x_is
+        v_is = ev ∙ ap₂ (λ (b : Bool) (k : ℕ). number_of b k x) (sign_at d i) (width_at d i) ∙ number-here f u at x room x_is
 
         m_is : m ≡ minus + bit (marked f (take (width f) (drop at u))) * 2 ^ i
         m_is =
-            em ∙ ap₂ (λ (b : Bool) (k : ℕ). minus + bit (b && is_minus_zero (bits k x)) * 2 ^ i) sign_is width_is
+            em ∙ ap₂ (λ (b : Bool) (k : ℕ). minus + bit (b && is_minus_zero (bits k x)) * 2 ^ i) (sign_at d i) (width_at d i)
             ∙ ap (λ (b : Bool). minus + bit b * 2 ^ i) (mark-here f u at x room x_is)
 
         values_more : values (drop i (places_of kind)) (drop at u) ≡ v ∷ values (drop (i + 1) (places_of kind)) (drop (at + w) u)
         unfolding values
         values_more =
-            ap (λ (fs : List Field). values fs (drop at u)) next
+            ap (λ (fs : List Field). values fs (drop at u)) (next_at d i h)
             ∙ ap₂ (λ (z : ℤ) (q : List Bool). z ∷ values (drop (i + 1) (places_of kind)) q) (sym v_is) on
 
         mark_more : m + 2 ^ (i + 1) * mark_of (minus_zeros (drop (i + 1) (places_of kind)) (drop (at + w) u))
@@ -215,7 +191,7 @@ module _ {u : List Bool} {from kind : ℕ} {numbers : List ℤ} {minus at i : �
             let n = mark_of (minus_zeros fs (drop (at + w) u)) in
             let b = bit (marked f (take (width f) (drop at u))) in
             let split : mark_of (minus_zeros (drop i (places_of kind)) (drop at u)) ≡ b + 2 * n =
-            ap (λ (gs : List Field). mark_of (minus_zeros gs (drop at u))) next
+            ap (λ (gs : List Field). mark_of (minus_zeros gs (drop at u))) (next_at d i h)
             ∙ ap (λ (q : List Bool). b + 2 * mark_of (minus_zeros fs q)) on in
             let whole : minus + 2 ^ i * (b + 2 * n) ≡ mark_of (minus_zeros (places_of kind) (drop from u)) =
             ap (λ (k : ℕ). minus + 2 ^ i * k) (sym split) ∙ c.mark in
@@ -239,7 +215,7 @@ module _ {u : List Bool} {from kind : ℕ} {numbers : List ℤ} {minus at i : �
             omega (arith, length-values fs (drop (at + w) u), length-drop (i + 1) (places_of kind), length_information kind, c.long, l) in
             record {
               long = length-set numbers i v ∙ c.long;
-              place = omega (arith, c.place, ap total next, width_is);
+              place = omega (arith, c.place, ap total (next_at d i h), width_at d i);
               rest = rest-on;
               filled = sym (put-cons i v vs numbers k) ∙ ap (λ (q : List ℤ). put i q numbers) (sym values_more) ∙ c.filled;
               mark = mark_more;

@@ -2,16 +2,16 @@
 use mathlib.Core.Path.{◌≡◌, refl, sym, ap, ◌∙◌}
 use mathlib.Core.Bool.{Bool, true, false, not, beq, false≢true, and-eq-true_iff}
 use mathlib.Core.List.{List, [], ◌∷◌, ◌++◌}
-use Prim.Native.Nat.{ℕ, zero, suc, ◌-◌, ◌<◌, ◌≤◌}
+use Prim.Native.Nat.{ℕ, zero, suc, ◌+◌, ◌-◌, ◌<◌, ◌≤◌}
 use native.Mathlib.Omega.{arith}
 use borrow.Author.Tests.{ltb-true, leb-true, not-true, eqb-false}
 use lib.Dec.{eqb, leb, ltb}
 use lib.ListN.{length, length-map, drop, replicate, get_or, get_or-append, get_or-map}
 use lib.Seq.{drop-append_seam}
 use Rattle.std.specs.List.{list_all}
-use Rattle.format.specs.Fields.{Field, absent, width, is_absent, total}
+use Rattle.format.specs.Fields.{Field, widest, absent, width, is_signed, is_absent, total}
 use Rattle.format.specs.Types.{typed, find, places, places_of}
-use Rattle.format.proofs.Information.{every, every_head, every_at, every_place, every_type, padded, places-from}
+use Rattle.format.proofs.Information.{every, every_head, every_at, every_place, every_type, padded, widths, places-from}
 use Rattle.types.specs.declared.rows.Place.{Place}
 use Rattle.types.specs.Rows.{place_of, no_place, Describes, narrow}
 
@@ -102,13 +102,33 @@ module _ {kind : ℕ} {table : List Place} (d : Describes kind table) where
   pub none_past : total (drop (length table) (places_of kind)) ≡ 0
   none_past = ap total drop_used ∙ total_absent (places - length table)
 
+  -- a place has the width and the sign of its field, which is narrow, and signed has a bit beside its sign
+  pub width_at : (i : ℕ) → (get_or table i no_place).width ≡ width (get_or (places_of kind) i absent)
+  width_at i = ap (λ (p : Place). p.width) (place_at i)
+
+  pub sign_at : (i : ℕ) → (get_or table i no_place).signed ≡ is_signed (get_or (places_of kind) i absent)
+  sign_at i = ap (λ (p : Place). p.signed) (place_at i)
+
+  pub narrow_at : (i : ℕ) → (get_or table i no_place).width ≤ widest
+  narrow_at i = omega (arith, width_at i, (widths kind i).0)
+
+  pub signed_at : (i : ℕ) → (get_or table i no_place).signed ≡ true → 2 ≤ (get_or table i no_place).width
+  signed_at i t = omega (arith, width_at i, (widths kind i).1 (sym (sign_at i) ∙ t))
+
+  -- one of the table has bits, and the places go on behind it
+  pub some_at : (i : ℕ) → i < length table → 0 < (get_or table i no_place).width
+  some_at i h =
+      let f = get_or (places_of kind) i absent in
+      let used : eqb (width f) 0 ≡ false =
+      width_tells f (every_at wide (places_of kind) i refl (all_wide kind)) ∙ used_at i h in
+      omega (arith, width_at i, eqb-false (width f) 0 used)
+
+  pub next_at : (i : ℕ) → i < length table → drop i (places_of kind) ≡ get_or (places_of kind) i absent ∷ drop (i + 1) (places_of kind)
+  next_at i h = places-from kind i (omega (arith, few_used))
+
   -- a type without fields has no bits of them, and one with fields has some
   pub no_bits : length table ≡ 0 → total (places_of kind) ≡ 0
   no_bits e = ap (λ (n : ℕ). total (drop n (places_of kind))) (sym e) ∙ none_past
 
   pub some_bits : 0 < length table → 0 < total (places_of kind)
-  some_bits h =
-      let f = get_or (places_of kind) 0 absent in
-      let used : eqb (width f) 0 ≡ false =
-      width_tells f (every_at wide (places_of kind) 0 refl (all_wide kind)) ∙ used_at 0 h in
-      omega (arith, eqb-false (width f) 0 used, ap total (places-from kind 0 (omega (arith, few_used))))
+  some_bits h = omega (arith, width_at 0, some_at 0 h, ap total (next_at 0 h))

@@ -11,7 +11,8 @@ use Rattle.bits.specs.declared.Phase.{Phase}
 use Rattle.bits.specs.Bits.{true_bits}
 use Rattle.fields.proofs.Decoding.{read_start, read_on, read_all}
 use Rattle.fields.proofs.Decoding.{marked_here, unmarked_here, mark-fits, mark-place}
-use Rattle.fields.proofs.Decoding.{some_here, width-here, signed-here, inside_here, small_here}
+use Rattle.fields.proofs.Decoding.{inside_here, small_here}
+use Rattle.types.proofs.Table.{narrow_at, signed_at, some_at}
 use Rattle.fields.proofs.numbers_at.Goals.{then-is_minus_zero, else-is_minus_zero}
 use Rattle.fields.proofs.numbers_at.Goals as goal
 
@@ -27,7 +28,7 @@ nonempty_field-word-requires c =
     let g = c.loop-i.invariant in
     let d = c.places_of-place-items.ensures in
     let h = c.loop-i-test.true in
-    (some_here g d h, width-here g d h, omega (arith, inside_here g d h, c.requires.room.0))
+    (some_at d c.loop-i.i h, narrow_at d c.loop-i.i, omega (arith, inside_here g d h, c.requires.room.0))
 
 pub invariant_of-field : goal.invariant_of-field
 invariant_of-field c =
@@ -35,7 +36,11 @@ invariant_of-field c =
     let d = c.places_of-place-items.ensures in
     let h = c.loop-i-test.true in
     let room = inside-part c.args.part.phase c.args.part.bytes.now c.requires.room.0 in
-    record { narrow = width-here g d h; sized = signed-here g d h; small = small_here g d h room c.nonempty_field-word.ensures }
+    record {
+      narrow = narrow_at d c.loop-i.i;
+      sized = signed_at d c.loop-i.i;
+      small = small_here g d h room c.nonempty_field-word.ensures;
+    }
 
 pub overflow_add-minus : goal.overflow_add-minus
 overflow_add-minus c =
