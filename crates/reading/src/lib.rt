@@ -4,9 +4,9 @@
 mod whole;
 
 ghost use Rattle.std.specs.Prelude.{◌≡◌};
-ghost use Rattle.format.specs.Reading.{reading, content_of};
+ghost use Rattle.format.specs.Reading.{reading};
 ghost use Rattle.format.specs.Records.{blank};
-ghost use Rattle.format.specs.Tests.{answer_of};
+ghost use Rattle.format.specs.Tests.{answer_of, given_or};
 ghost use Rattle.format.specs.Writing.{ReadPromise};
 ghost use Rattle.reading.specs.Reads.{Reads};
 
@@ -31,7 +31,7 @@ fn fill(rec: &[u8], count: usize, phase: Phase, place: usize, r: &mut Record) ->
     whole.checked(place, r)
 }
 
-// Reads the string at a place into a lent record, which is blank beside a refusal: 1, 2, 3, 5, 4, 5, 6, 7, 8.
+// Reads the string at a place into a lent record, which a refusal leaves unchanged: 1, 2, 3, 5, 4, 5, 6, 7, 8.
 #[inline(always)]
 pub fn read_into(
     rec: &[u8],
@@ -41,13 +41,14 @@ pub fn read_into(
     r: &mut Record,
 ) -> Result<(), Refusal>
     ensures answered { result ≡ answer_of (reading phase rec.now count place) }
-    ensures content { r.new ≡ content_of (reading phase rec.now count place) }
+    ensures content { r.new ≡ given_or r.old (reading phase rec.now count place) }
     ensures promise { ReadPromise phase rec.now count place (reading phase rec.now count place) }
 {
+    let before = *r;
     *r = Record::default();
     let answer = fill(rec, count, phase, place, r);
     if answer.is_err() {
-        *r = Record::default();
+        *r = before;
     }
     answer
 }

@@ -2,7 +2,7 @@
 #![tactic(auto)]
 
 ghost use Rattle.std.specs.Prelude.{◌≡◌};
-ghost use Rattle.format.specs.Sets.{blank_set, set_reading, SetReadPromise, SetWritePromise};
+ghost use Rattle.format.specs.Sets.{set_reading, SetReadPromise, SetWritePromise};
 ghost use Rattle.format.specs.Tests.{answer_of, given_or};
 ghost use Rattle.reading.specs.Reads.{Reads};
 
@@ -28,7 +28,7 @@ fn fill(rec: &[u8], count: usize, phase: Phase, place: usize, s: &mut Set) -> Re
     members::set_tests(s)
 }
 
-// Reads the set at a place into a lent set, which is blank beside a refusal.
+// Reads the set at a place into a lent set, which a refusal leaves unchanged.
 #[inline(always)]
 pub fn read_into(
     rec: &[u8],
@@ -38,12 +38,13 @@ pub fn read_into(
     s: &mut Set,
 ) -> Result<(), Refusal>
     ensures answered { result ≡ answer_of (set_reading phase rec.now count place) }
-    ensures content { s.new ≡ given_or blank_set (set_reading phase rec.now count place) }
+    ensures content { s.new ≡ given_or s.old (set_reading phase rec.now count place) }
     ensures promise { SetReadPromise phase rec.now count place (set_reading phase rec.now count place) }
 {
+    let before = *s;
     let answer = fill(rec, count, phase, place, s);
     if answer.is_err() {
-        *s = Set::default();
+        *s = before;
     }
     answer
 }

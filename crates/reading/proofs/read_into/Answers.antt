@@ -1,4 +1,4 @@
--- `reading::read_into`: what was filled, or a blank record. Assumes nothing.
+-- `reading::read_into`: what was filled, or the record as it was. Assumes nothing.
 use mathlib.Core.Path.{refl}
 use Prim.Native.Nat.{ℕ, ◌<◌}
 use lib.ListN.{get_or}

@@ -1,4 +1,4 @@
--- `sets::read_into`: what was filled, or a blank set. Assumes nothing.
+-- `sets::read_into`: what was filled, or the set as it was. Assumes nothing.
 use mathlib.Core.Path.{refl}
 use Rattle.sets.proofs.Answering.{promised}
 use Rattle.sets.proofs.read_into.Goals as goal
