@@ -2,7 +2,7 @@
 #![tactic(auto)]
 
 ghost use Rattle.std.specs.Prelude.{◌≡◌, ◌^◌, ◌<◌};
-ghost use Rattle.format.specs.Answers.{refusal_code, answer_code, outcome_code};
+ghost use Rattle.format.specs.Answers.{refusal_code, answer_code, outcome_code, taken_code};
 ghost use Rattle.format.specs.declared.Refusal.TheVariants.{BeyondCount};
 ghost use Rattle.format.specs.Tests.{when, above, count_tests, place_tests};
 
@@ -35,6 +35,7 @@ pub fn refusal_code(refusal: Refusal) -> Code
         Refusal::OtherTypes => coded(12, 0),
         Refusal::OtherSatellites => coded(13, 0),
         Refusal::OtherTimes => coded(14, 0),
+        Refusal::NotAlmanac => coded(15, 0),
     }
 }
 
@@ -64,6 +65,16 @@ pub fn outcome_code(answer: Result<usize, Refusal>) -> Code
 {
     match answer {
         Ok(value) => coded(0, value),
+        Err(refusal) => refusal_code(refusal),
+    }
+}
+
+// Number and value of what offering a record to a book answers: whether the record is taken.
+pub fn taken_code(answer: Result<bool, Refusal>) -> Code
+    ensures { (result.number ≡ (taken_code answer).0) × (result.value ≡ (taken_code answer).1) }
+{
+    match answer {
+        Ok(taken) => coded(0, usize::from(taken)),
         Err(refusal) => refusal_code(refusal),
     }
 }

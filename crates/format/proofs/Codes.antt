@@ -8,7 +8,7 @@ use Rattle.format.specs.Answers.{refusal_code, answer_code, outcome_code, value_
 use Rattle.format.specs.declared.Refusal.{Refusal}
 use Rattle.format.specs.declared.Refusal.TheVariants.{TooLong, BeyondBytes, BeyondCount, NoMark, RunsOut, CheckFails}
 use Rattle.format.specs.declared.Refusal.TheVariants.{OutOfRange, OtherOrbit, ListShort, MinusZero, NotZero}
-use Rattle.format.specs.declared.Refusal.TheVariants.{OtherTypes, OtherSatellites, OtherTimes}
+use Rattle.format.specs.declared.Refusal.TheVariants.{OtherTypes, OtherSatellites, OtherTimes, NotAlmanac}
 
 pub not-zero : (r : Refusal) → (refusal_code r).0 ≡ 0 → ⊥
 not-zero TooLong e = omega arith
@@ -25,6 +25,7 @@ not-zero NotZero e = omega arith
 not-zero OtherTypes e = omega arith
 not-zero OtherSatellites e = omega arith
 not-zero OtherTimes e = omega arith
+not-zero NotAlmanac e = omega arith
 
 pub zero_passed : (a : Answer) → (answer_code a).0 ≡ 0 → a ≡ Ok tt
 zero_passed (Ok u) e = refl
