@@ -58,20 +58,20 @@ returned-given (on true n v ∷ ls) g = refl
 returned-given (on false n v ∷ ls) g = returned-given ls g
 
 -- ---- an answer is what lines say
-record Tells (a : Answer) (ls : List Line) : Type 0 where
-  passes : is_passed a ≡ none ls
-  code : answer_code a ≡ returned ls 0
+pub record Tells (a : Answer) (ls : List Line) : Type 0 where
+  pub passes : is_passed a ≡ none ls
+  pub code : answer_code a ≡ returned ls 0
 
 tells_passed : Tells (Ok tt) []
 unfolding returned
 tells_passed = record { passes = refl; code = refl }
 
-tells_when : (b : Bool) (r : Refusal) → Tells (when b r) (on b (refusal_code r).0 (refusal_code r).1 ∷ [])
+pub tells_when : (b : Bool) (r : Refusal) → Tells (when b r) (on b (refusal_code r).0 (refusal_code r).1 ∷ [])
 unfolding when returned
 tells_when true r = record { passes = refl; code = refl }
 tells_when false r = record { passes = refl; code = refl }
 
-tells_then : {a b : Answer} {ls ms : List Line} → Tells a ls → Tells b ms → Tells (a then b) (ls ++ ms)
+pub tells_then : {a b : Answer} {ls ms : List Line} → Tells a ls → Tells b ms → Tells (a then b) (ls ++ ms)
 unfolding ◌then◌
 tells_then {a} {b} {ls} {ms} s t = at a s.passes s.code
   where
@@ -98,7 +98,7 @@ tells_giving : {A : Type 0} {a : Answer} (x : A) {ls : List Line} → Tells a ls
 tells_giving {A} {a} x {ls} t = subst (λ (b : Answer). Tells b ls) (sym (answer_giving a x)) t
 
 -- what gives a number where its tests pass
-giving-returned : {a : Answer} {ls : List Line} → Tells a ls → (g : ℕ) → outcome_code (giving a g) ≡ returned ls g
+pub giving-returned : {a : Answer} {ls : List Line} → Tells a ls → (g : ℕ) → outcome_code (giving a g) ≡ returned ls g
 giving-returned {a} {ls} t g = at a t.passes t.code ∙ sym (returned-given ls g)
   where
     at : (a : Answer) → is_passed a ≡ none ls → answer_code a ≡ returned ls 0
@@ -167,7 +167,7 @@ stray_tells fs vs (m ∷ ms) n =
     first_tells (m && not (may_bear (get_or fs n absent) (get_or vs n (pos 0)))) (MinusZero n) _ _ (stray_tells fs vs ms (suc n))
 
 -- 7, 8, 11, 10
-record_tells : (r : Record) → Tells (record_tests r) (record_lines r)
+pub record_tells : (r : Record) → Tells (record_tests r) (record_lines r)
 unfolding record_tests
 record_tells r =
     tells_then (field_tells r)

@@ -14,7 +14,7 @@ use lib.Pow.{pow_mono}
 use lib.Seq.{get_or-drop}
 use lib.Signed.{le_z}
 use borrow.Author.Tests.{eqb-true, leb-true, ltb-true}
-use Rattle.format.proofs.FieldLaws.{range_most, range_size, ranges-at}
+use Rattle.format.proofs.FieldLaws.{range_ends, range_size, ranges-at}
 use Rattle.format.proofs.Information.{every_at, every_place, length_information}
 use Rattle.format.proofs.Order.{then_pass}
 use Rattle.format.proofs.Writing.{ranged}
@@ -79,7 +79,7 @@ few absent = true
 
 few_number : (f : Field) (v : ℤ) → few f ≡ true → in_range f v ≡ true → (power f ≡ 0 → ⊥) → nat_abs v < 2 ^ 53
 unfolding in_range
-few_number (unsigned w a b k) (pos n) e r p = lt_of_le_of_lt (range_most w a b k n r) (ltb-true b (2 ^ 53) e)
+few_number (unsigned w a b k) (pos n) e r p = lt_of_le_of_lt (range_ends w a b k n r).1 (ltb-true b (2 ^ 53) e)
 few_number (unsigned w a b k) (negsuc n) e r p = absurd (false≢true r)
 few_number (signed w k) v e r p =
     let s : w ≤ 54 = leb-true w 54 e in
