@@ -1,0 +1,9 @@
+pub mod Rows
+pub mod Ties
+pub mod Words
+pub mod Ranks
+pub mod Entries
+pub mod Books
+pub mod Theorems
+pub mod Answering
+pub mod Worked
