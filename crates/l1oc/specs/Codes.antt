@@ -1,5 +1,5 @@
 -- The numbers of the C interface that name a phase, and its structs, from the answers and their numbers and values. Assumes nothing.
-use Rattle.std.specs.Prelude.{false, ℕ, zero, suc, Float, pos, Result}
+use Rattle.std.specs.Prelude.{false, ℕ, zero, suc, Float, pos, Result, Option, Some, None}
 use Rattle.std.specs.Float.{fin}
 use Rattle.bits.specs.declared.Phase.{Phase}
 use Rattle.bits.specs.declared.Phase.TheVariants.{Straight, Inverted}
@@ -10,6 +10,8 @@ use Rattle.format.specs.Answers.{answer_code}
 use Rattle.format.specs.Records.{blank}
 use Rattle.format.specs.Tests.{given_or}
 use Rattle.format.specs.Sets.{blank_set}
+use Rattle.almanac.specs.declared.Entry.{Entry}
+use Rattle.almanac.specs.Book.{holding, empty_entry}
 use Rattle.answers.specs.declared.Code.{Code}
 use Rattle.l1oc.specs.declared.ReadCode.{ReadCode}
 use Rattle.l1oc.specs.declared.SetCode.{SetCode}
@@ -34,3 +36,8 @@ set_coded a = record { number = (answer_code a).0; value = (answer_code a).1; co
 
 abbrev pub value_coded : Result Float Refusal → ValueCode
 value_coded a = record { number = (answer_code a).0; value = (answer_code a).1; scaled = given_or (fin false 0 (pos 0)) a }
+
+-- What a book holds for a satellite, as an entry: an empty one where it holds nothing.
+abbrev pub entry_coded : Option Record → Entry
+entry_coded (Some r) = holding r
+entry_coded None = empty_entry

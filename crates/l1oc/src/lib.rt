@@ -3,7 +3,9 @@
 
 ghost use Rattle.std.specs.Prelude.{◌≡◌, length};
 ghost use Rattle.std.specs.Result.{ResultUnwrapsOrElse};
-ghost use Rattle.format.specs.Answers.{answer_code, outcome_code};
+ghost use Rattle.almanac.specs.Book.{offering, offer_returned, entry};
+ghost use Rattle.almanac.specs.Offers.{OfferPromise};
+ghost use Rattle.format.specs.Answers.{answer_code, outcome_code, taken_code};
 ghost use Rattle.format.specs.Demand3.{ListPromise};
 ghost use Rattle.format.specs.Listing.{listing, list_returned};
 ghost use Rattle.format.specs.Reading.{reading, read_returned};
@@ -12,8 +14,9 @@ ghost use Rattle.format.specs.Sets.{SetReadPromise, SetWritePromise};
 ghost use Rattle.format.specs.Values.{power_of, count_of, IsScaled, scaling, scale_returned, ScalePromise};
 ghost use Rattle.format.specs.Values.{accuracy, accuracy_returned, day_count, days_returned};
 ghost use Rattle.format.specs.Writing.{writing, write_returned, ReadsBack, WritesBack, ReadPromise, WritePromise};
-ghost use Rattle.l1oc.specs.Codes.{phase_of, coded, read_coded, set_coded, value_coded};
+ghost use Rattle.l1oc.specs.Codes.{phase_of, coded, read_coded, set_coded, value_coded, entry_coded};
 
+use almanac::{Book, Entry};
 use answers::Code;
 use bits::Phase;
 use format::{Record, Refusal, Set};
@@ -175,4 +178,25 @@ pub extern "C" fn l1oc_day_count(n4: i64, nt: i64) -> Code
     ensures numbered { result ≡ coded (days_returned n4 nt) }
 {
     answers::outcome_code(values::day_count(n4, nt))
+}
+
+// Offers a record to an almanac book, and answers whether it was taken. A refusal leaves the book unchanged.
+#[unsafe(no_mangle)]
+pub extern "C" fn l1oc_offer(book: &mut Book, content: Record) -> Code
+    ensures answered { result ≡ coded (taken_code (offering book.old content)) }
+    ensures numbered { result ≡ coded (offer_returned book.old content) }
+    ensures offer_promise { OfferPromise book.old content (offering book.old content) book.new }
+{
+    answers::taken_code(book.offer(&content))
+}
+
+// What a book holds for a satellite: its entry, or an empty one.
+#[unsafe(no_mangle)]
+pub extern "C" fn l1oc_entry(book: &Book, satellite: usize) -> Entry
+    ensures { result ≡ entry_coded (entry book.now satellite) }
+{
+    match book.entry(satellite) {
+        Some(content) => Entry::holding(&content),
+        None => Entry::default(),
+    }
 }
