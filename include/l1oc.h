@@ -10,9 +10,9 @@
  * straight: it sets true bits.
  *
  * Every function answers for every value of its numbers. What is asked of the caller: a pointer leads to as many elements as the length
- * beside it says, aligned as its type asks, and set; `bytes` and `list` share no memory; nobody else writes to them during the call.
- * Where the length is 0 nothing is read or written through the pointer, which may then be null. No function keeps a pointer, allocates,
- * or has state of its own.
+ * beside it says, `book` to one book, aligned as its type asks, and set; `bytes` and `list` share no memory; nobody else writes to them
+ * during the call. Where the length is 0 nothing is read or written through the pointer, which may then be null; `book` may not be null.
+ * No function keeps a pointer, allocates, or has state of its own.
  *
  * Every answer has a number and a value. Number 0: done. Otherwise the first test that fails, a number of `enum l1oc_refusal`, and lent
  * memory is left as it was.
@@ -40,6 +40,10 @@ extern "C" {
 /* The bits of a set: three strings of 250. */
 #define L1OC_SET_BITS 750
 
+/* The satellites that a book has an entry for, 1 to 63, and the bytes that a book has. */
+#define L1OC_SATELLITES 63
+#define L1OC_BOOK_BYTES 12096
+
 /* The phase of a recording. A number that is neither is not refused, and counts as inverted. */
 enum l1oc_phase {
     L1OC_STRAIGHT = 0, /* its bits are the true ones */
@@ -61,7 +65,14 @@ enum l1oc_refusal {
     L1OC_NOT_ZERO = 11,         /* 0: a number or a raw bit that the type does not use is not 0 */
     L1OC_OTHER_TYPES = 12,      /* 0: a set's types are not 10, 11, 12 in order */
     L1OC_OTHER_SATELLITES = 13, /* 0: a set's satellite numbers differ */
-    L1OC_OTHER_TIMES = 14       /* 0: OMB does not rise by one from each of a set's records to the next (43199 goes to 0) */
+    L1OC_OTHER_TIMES = 14,      /* 0: OMB does not rise by one from each of a set's records to the next (43199 goes to 0) */
+    L1OC_NOT_ALMANAC = 15       /* 0: the record offered is not of type 20 */
+};
+
+/* What a book does with a record that is not refused. */
+enum l1oc_offered {
+    L1OC_PASSED_OVER = 0, /* it keeps what it holds */
+    L1OC_TAKEN = 1        /* it holds the record now */
 };
 
 /* An answer. */
@@ -188,6 +199,25 @@ struct l1oc_set_reading {
     struct l1oc_set content; /* the set; all 0 beside a refusal */
 };
 
+/* The entry of a satellite in a book. Every byte of it is one of a member. */
+struct l1oc_book_entry {
+    uint64_t held;              /* 0 where the entry is empty; every other number says that the record is held */
+    struct l1oc_record content; /* the record */
+};
+
+/*
+ * An almanac book: the current almanac of each satellite. The empty book is 0 in every byte (`struct l1oc_book book = {0};`, in C++
+ * `= {}`).
+ *
+ * Every book has an answer, whatever its bytes are: any record may be held, with any day and age. Every byte of a book is one of an entry.
+ */
+struct l1oc_book {
+    struct l1oc_book_entry entries[L1OC_SATELLITES]; /* entries[j - 1]: that of satellite j */
+};
+
+/* Stops a compiler that lays the book out otherwise than the library. */
+typedef char l1oc_book_is_as_in_the_library[sizeof(struct l1oc_book) == L1OC_BOOK_BYTES ? 1 : -1];
+
 /* What scaling answers. */
 struct l1oc_value {
     uint64_t number; /* 0, or the number of a refusal */
@@ -269,6 +299,32 @@ struct l1oc_answer l1oc_accuracy(int64_t factor);
  * Refuses, in this order, with 7, 10 where n4 is out of its range, and 7, 11 where nt is.
  */
 struct l1oc_answer l1oc_day_count(int64_t n4, int64_t nt);
+
+/*
+ * Offers a record of type 20 to a book, for the entry of its satellite.
+ *
+ * An empty entry takes it. Otherwise the days decide (field 13): that of the record minus that of the held one, modulo 1461, from 0 to
+ * 1460. At 1 to 730 the record is taken, and at 731 to 1460 it is passed over. At 0 it is taken where its age (field 12) is smaller than
+ * that of the held one, and passed over where it is equal or greater.
+ *
+ * Gives 0 and L1OC_TAKEN: the entry has `held` 1 and the record, and the other entries are as they were. Or gives 0 and L1OC_PASSED_OVER:
+ * the whole book is as it was. A refusal too leaves the whole book as it was.
+ * Refuses, in this order, with 7, 8, 11, 10 for the record as writing does; with 15.
+ *
+ * After day 1461 of an interval comes day 1 of the next, and a record does not tell its interval: a day more than half an interval back
+ * can't be told from a later one. Take the records of a satellite that a book took or passed over since it was empty. Where their days lie
+ * among some 731 in a row, one of them is the latest; the entry is of that day, with the smallest age on it, and is the first of these that
+ * came. Where they don't, there may be no latest day: offered in turn, records of the days 1, 488 and 975 supersede each other without end.
+ */
+struct l1oc_answer l1oc_offer(struct l1oc_book *book, struct l1oc_record content);
+
+/*
+ * The entry of a satellite in a book, by the satellite's number. `book` is only read.
+ *
+ * Gives `held` 1 and the record that is held; all 0 where the entry is empty or the number is not from 1 to L1OC_SATELLITES.
+ * Refuses nothing.
+ */
+struct l1oc_book_entry l1oc_entry(const struct l1oc_book *book, size_t satellite);
 
 #ifdef __cplusplus
 }
