@@ -1,5 +1,5 @@
 //! Links the proved archive, `libl1oc.a`, from the folder where `rt lib` in crates/l1oc puts it, and takes the limits, the sizes and the
-//! numbers of phases and refusals from the header.
+//! numbers of the enums from the header.
 
 use std::env;
 use std::fs;

@@ -1,6 +1,6 @@
 //! The C interface for Rust: the limits, types and functions of `include/l1oc.h`, which says what each gives.
 
-// MAX_BITS and the other limits and sizes, and `phase` and `refusal` with the numbers, from the header.
+// MAX_BITS and the other limits and sizes, and `phase`, `refusal` and `offered` with the numbers, from the header.
 #[allow(unused_parens)]
 mod header {
     include!(concat!(env!("OUT_DIR"), "/header.rs"));
@@ -101,6 +101,38 @@ pub struct SetReading {
     pub content: Set,
 }
 
+/// The entry of a satellite in a book: empty where `held` is 0; else the record is held.
+#[repr(C)]
+#[derive(Clone, Copy, Debug, PartialEq, Eq)]
+pub struct BookEntry {
+    pub held: u64,
+    pub content: Record,
+}
+
+impl BookEntry {
+    /// The empty entry, every byte 0.
+    pub const EMPTY: Self = Self {
+        held: 0,
+        content: Record::BLANK,
+    };
+}
+
+/// An almanac book: the current almanac of each satellite, that of satellite j in `entries[j - 1]`.
+#[repr(C)]
+#[derive(Clone, Debug, PartialEq, Eq)]
+pub struct Book {
+    pub entries: [BookEntry; SATELLITES],
+}
+
+impl Book {
+    /// The book of empty entries.
+    pub const EMPTY: Self = Self {
+        entries: [BookEntry::EMPTY; SATELLITES],
+    };
+}
+
+const _: () = assert!(size_of::<Book>() == BOOK_BYTES);
+
 /// What scaling answers: the value, or a refusal beside 0.0.
 #[repr(C)]
 #[derive(Clone, Copy, Debug, PartialEq)]
@@ -112,7 +144,7 @@ pub struct Value {
 
 /// The functions as C declares them.
 pub mod c {
-    use super::{Answer, Reading, Record, Set, SetReading, Value};
+    use super::{Answer, Book, BookEntry, Reading, Record, Set, SetReading, Value};
 
     extern "C" {
         pub fn l1oc_list(
@@ -154,6 +186,8 @@ pub mod c {
         pub fn l1oc_scaled(content: Record, field: usize) -> Value;
         pub fn l1oc_accuracy(factor: i64) -> Answer;
         pub fn l1oc_day_count(n4: i64, nt: i64) -> Answer;
+        pub fn l1oc_offer(book: *mut Book, content: Record) -> Answer;
+        pub fn l1oc_entry(book: *const Book, satellite: usize) -> BookEntry;
     }
 }
 
@@ -212,4 +246,16 @@ pub fn accuracy(factor: i64) -> Answer {
 pub fn day_count(n4: i64, nt: i64) -> Answer {
     // SAFETY: everything goes by value.
     unsafe { c::l1oc_day_count(n4, nt) }
+}
+
+#[inline(always)]
+pub fn offer(book: &mut Book, content: Record) -> Answer {
+    // SAFETY: the book is lent whole.
+    unsafe { c::l1oc_offer(book, content) }
+}
+
+#[inline(always)]
+pub fn entry(book: &Book, satellite: usize) -> BookEntry {
+    // SAFETY: the book is lent whole.
+    unsafe { c::l1oc_entry(book, satellite) }
 }
