@@ -22,6 +22,8 @@ struct l1oc_answer l1oc_write_set(uint8_t *bytes, size_t length, size_t count, s
 struct l1oc_value l1oc_scaled(struct l1oc_record content, size_t field);
 struct l1oc_answer l1oc_accuracy(int64_t factor);
 struct l1oc_answer l1oc_day_count(int64_t n4, int64_t nt);
+struct l1oc_answer l1oc_offer(struct l1oc_book *book, struct l1oc_record content);
+struct l1oc_book_entry l1oc_entry(const struct l1oc_book *book, size_t satellite);
 #ifdef __cplusplus
 }
 #endif
@@ -43,6 +45,7 @@ static void check(int holds, const char *condition, int line)
 
 typedef int64_t sixteen_numbers[16];
 typedef uint8_t raw_bytes[38];
+typedef struct l1oc_book_entry entries_of_63[63];
 
 /* A member's type, which has to be the pointer's, its offset and its size. */
 #define MEMBER(of, type, name, offset, size)          \
@@ -89,6 +92,13 @@ static void layout(void)
     MEMBER(l1oc_set_reading, uint64_t, value, 8, 8);
     MEMBER(l1oc_set_reading, struct l1oc_set, content, 16, 552);
 
+    CHECK(sizeof(struct l1oc_book_entry) == 192);
+    MEMBER(l1oc_book_entry, uint64_t, held, 0, 8);
+    MEMBER(l1oc_book_entry, struct l1oc_record, content, 8, 184);
+
+    CHECK(sizeof(struct l1oc_book) == 12096);
+    MEMBER(l1oc_book, entries_of_63, entries, 0, 12096);
+
     CHECK(sizeof(struct l1oc_value) == 24);
     MEMBER(l1oc_value, uint64_t, number, 0, 8);
     MEMBER(l1oc_value, uint64_t, value, 8, 8);
@@ -104,6 +114,8 @@ static void constants(void)
     CHECK(L1OC_RAW_BYTES == 38);
     CHECK(L1OC_RECORD_BYTES == 184);
     CHECK(L1OC_SET_BITS == 750);
+    CHECK(L1OC_SATELLITES == 63);
+    CHECK(L1OC_BOOK_BYTES == 12096);
     CHECK(L1OC_STRAIGHT == 0);
     CHECK(L1OC_INVERTED == 1);
     CHECK(L1OC_TOO_LONG == 1);
@@ -120,6 +132,9 @@ static void constants(void)
     CHECK(L1OC_OTHER_TYPES == 12);
     CHECK(L1OC_OTHER_SATELLITES == 13);
     CHECK(L1OC_OTHER_TIMES == 14);
+    CHECK(L1OC_NOT_ALMANAC == 15);
+    CHECK(L1OC_PASSED_OVER == 0);
+    CHECK(L1OC_TAKEN == 1);
 }
 
 /* ---- strings and records ---- */
@@ -227,7 +242,7 @@ static struct l1oc_record record_of(const struct string *string)
     return record;
 }
 
-/* Records that writing and scaling refuse. */
+/* Records that writing, scaling and offering refuse. */
 static struct {
     struct l1oc_record record;
     uint64_t number;
@@ -347,6 +362,127 @@ static void make_refused_sets(void)
     both->third.satellite = 52;
     both->second.time = 1;
 }
+
+/* ---- books ---- */
+
+/* A book with numbers on both sides: the one that is lent, and what it should be afterwards. */
+struct guarded {
+    uint64_t before[3];
+    struct l1oc_book book;
+    uint64_t after[3];
+};
+
+static struct guarded lent_book;
+static struct guarded wanted_book;
+
+static struct l1oc_book empty_book; /* all 0 */
+
+/* Lends a copy of a book. */
+static void lend_book(const struct l1oc_book *book)
+{
+    memset(&lent_book, 0xa5, sizeof lent_book);
+    lent_book.book = *book;
+    wanted_book = lent_book;
+}
+
+/* Whether the lent book and the numbers beside it are as they should be, in every byte. */
+static int book_left(void)
+{
+    return memcmp(&lent_book, &wanted_book, sizeof lent_book) == 0;
+}
+
+/* The fourth string as a record of this satellite, age and day. */
+static struct l1oc_record almanac(int64_t satellite, int64_t age, int64_t day)
+{
+    struct l1oc_record record = record_of(&strings[3]);
+
+    set(&record, 2, satellite);
+    set(&record, 12, age);
+    set(&record, 13, day);
+    return record;
+}
+
+/* Records that are offered in turn, the first of them to an empty book: 1 where it is taken, 0 where it is passed over. */
+static const struct {
+    int64_t satellite;
+    int64_t age;
+    int64_t day;
+    uint64_t taken;
+} offered[] = {
+    {24, 33, 1461, 1}, /* the first that comes */
+    {24, 33, 1461, 0}, /* equal ages */
+    {24, 34, 1461, 0},
+    {24, 32, 1461, 1}, /* a smaller age */
+    {24, 0, 1460, 0},  /* 1460 days later */
+    {24, 0, 731, 0},   /* 731 */
+    {24, 63, 730, 1},  /* 730 */
+    {24, 0, 1461, 0},
+    {24, 63, 731, 1}, /* 1 */
+    {24, 63, 1461, 1},
+    {24, 63, 1, 1},
+    {24, 0, 1461, 0},
+    {63, 63, 732, 1}, /* other satellites, the last and the first among them */
+    {1, 0, 1461, 1},
+    {23, 7, 700, 1},
+    {25, 7, 1460, 1},
+    {24, 0, 1, 1},
+    {1, 0, 1461, 0},
+    {63, 62, 732, 1},
+    {63, 0, 2, 0},  /* 731 days later, past the interval's end */
+    {63, 63, 1, 1}, /* 730 */
+    {2, 5, 1, 1},   /* each 487 days after the one before, round and round */
+    {2, 5, 488, 1},
+    {2, 5, 975, 1},
+    {2, 5, 1, 1},
+    {2, 5, 488, 1},
+};
+
+/* Held days and ages that no record has which was taken, and a record offered beside them. */
+static const struct {
+    int64_t held_age;
+    int64_t held_day;
+    int64_t age;
+    int64_t day;
+    uint64_t taken;
+} held[] = {
+    {0, 0, 0, 1, 1},
+    {0, 0, 0, 730, 1},
+    {0, 0, 0, 731, 0},
+    {1, 0, 0, 1461, 1}, /* 1461 days later: 0 */
+    {0, 0, 0, 1461, 0},
+    {7, 1462, 6, 1, 1},
+    {7, 1462, 7, 1, 0},
+    {7, 1462, 8, 2, 1},
+    {7, -1460, 6, 1, 1},
+    {7, -1460, 7, 1, 0},
+    {7, -1460, 6, 1461, 0},
+    {0, INT64_MIN, 0, 1319, 1}, /* INT64_MIN is 1318 modulo 1461 */
+    {0, INT64_MIN, 0, 587, 1},
+    {0, INT64_MIN, 0, 588, 0},
+    {0, INT64_MIN, 0, 1317, 0},
+    {1, INT64_MIN, 0, 1318, 1},
+    {0, INT64_MIN, 0, 1318, 0},
+    {0, INT64_MAX, 0, 143, 1}, /* INT64_MAX is 142 */
+    {0, INT64_MAX, 0, 872, 1},
+    {0, INT64_MAX, 0, 873, 0},
+    {0, INT64_MAX, 0, 141, 0},
+    {1, INT64_MAX, 0, 142, 1},
+    {0, INT64_MAX, 0, 142, 0},
+    {0, INT64_C(4294967297), 0, 1, 1}, /* 1 in 32 bits, and 1313 modulo 1461 */
+    {-1, 100, 0, 100, 0},
+    {INT64_MIN, 100, 63, 100, 0},
+    {INT64_MAX, 100, 63, 100, 1},
+    {INT64_C(4294967296), 100, 63, 100, 1}, /* 0 in 32 bits */
+};
+
+/* Numbers that say that a record is held; some are 0 in their lowest bit, byte or half. */
+static const uint64_t flags[] = {1, 2, 0x100, UINT64_C(1) << 32, UINT64_C(1) << 63, UINT64_MAX};
+
+enum {
+    OFFERED = sizeof offered / sizeof offered[0],
+    HELD = sizeof held / sizeof held[0],
+    FLAGS = sizeof flags / sizeof flags[0]
+};
 
 /* ---- phases ---- */
 
@@ -787,6 +923,110 @@ static void test_day_count(void)
     CHECK(answers(l1oc_day_count(1, INT64_C(4294967297)), 7, 11));
 }
 
+/* Offers a record to the lent book: it is taken, or passed over. */
+static int offers(struct l1oc_record record, uint64_t taken)
+{
+    struct l1oc_book_entry *entry = &wanted_book.book.entries[record.satellite - 1];
+
+    if (taken) {
+        entry->held = 1;
+        entry->content = record;
+    }
+    return answers(l1oc_offer(&lent_book.book, record), 0, taken) && book_left();
+}
+
+static int refuses_to_offer(struct l1oc_record record, uint64_t number, uint64_t value)
+{
+    return answers(l1oc_offer(&lent_book.book, record), number, value) && book_left();
+}
+
+static void test_offer(void)
+{
+    struct l1oc_book_entry *entry = &lent_book.book.entries[23];
+    struct l1oc_record record;
+    size_t i;
+    size_t j;
+
+    lend_book(&empty_book);
+    for (i = 0; i < OFFERED; i++) {
+        record = almanac(offered[i].satellite, offered[i].age, offered[i].day);
+        record.time = i; /* none is like another */
+        CHECK(offers(record, offered[i].taken));
+    }
+    for (i = 0; i < HELD; i++) {
+        for (j = 0; j < FLAGS; j++) {
+            entry->held = flags[j];
+            entry->content = almanac(24, held[i].held_age, held[i].held_day);
+            wanted_book = lent_book;
+            CHECK(offers(almanac(24, held[i].age, held[i].day), held[i].taken));
+        }
+    }
+    /* nothing of the held record counts but its day and its age, and in an empty entry nothing */
+    memset(entry, 0xff, sizeof *entry);
+    set(&entry->content, 12, 7);
+    set(&entry->content, 13, 100);
+    wanted_book = lent_book;
+    CHECK(offers(almanac(24, 7, 100), 0));
+    CHECK(offers(almanac(24, 0, 831), 0));
+    entry->held = wanted_book.book.entries[23].held = 0;
+    CHECK(offers(almanac(24, 8, 100), 1));
+
+    for (j = 0; j < 2; j++) {
+        for (i = 0; i < refusals; i++) {
+            CHECK(refuses_to_offer(refused[i].record, refused[i].number, refused[i].value));
+        }
+        for (i = 0; i < STRINGS; i++) {
+            CHECK(i == 3 || refuses_to_offer(record_of(&strings[i]), 15, 0));
+        }
+        lend_book(&empty_book); /* first a book with entries, then the empty one */
+    }
+}
+
+/* Looks a satellite up with junk where the call has its frame and where the result goes: it gives these bytes. */
+static int shows(const struct l1oc_book *book, size_t satellite, struct l1oc_book_entry wanted)
+{
+    struct l1oc_book_entry entry;
+
+    fill(&entry, JUNK, sizeof entry);
+    junk_stack();
+    entry = l1oc_entry(book, satellite);
+    return memcmp(&entry, &wanted, sizeof entry) == 0 && book_left();
+}
+
+static void test_entry(void)
+{
+    static struct l1oc_book book;
+    struct l1oc_book_entry wanted;
+    size_t i;
+
+    lend_book(&empty_book);
+    for (i = 0; i <= 256; i++) {
+        CHECK(shows(&lent_book.book, i, empty_book.entries[0]));
+    }
+    for (i = 0; i < L1OC_SATELLITES; i++) { /* every second entry is held */
+        book.entries[i].held = i % 2 == 0 ? 0 : flags[i % FLAGS];
+        book.entries[i].content = record_of(&strings[i % STRINGS]);
+        book.entries[i].content.time = i;
+    }
+    lend_book(&book);
+    for (i = 1; i <= 63; i++) {
+        wanted = empty_book.entries[0];
+        if (i % 2 == 0) {
+            wanted.held = 1;
+            wanted.content = record_of(&strings[(i - 1) % STRINGS]);
+            wanted.content.time = i - 1;
+        }
+        CHECK(shows(&lent_book.book, i, wanted));
+        CHECK(shows(&lent_book.book, i + 64, empty_book.entries[0]));
+        CHECK(shows(&lent_book.book, i + 256, empty_book.entries[0])); /* i in 8 bits */
+        CHECK(shows(&lent_book.book, i + (SIZE_MAX >> 32) + 1, empty_book.entries[0])); /* in 32 */
+        CHECK(shows(&lent_book.book, i + (SIZE_MAX >> 1) + 1, empty_book.entries[0]));  /* in 63 */
+    }
+    CHECK(shows(&lent_book.book, 0, empty_book.entries[0]));
+    CHECK(shows(&lent_book.book, 64, empty_book.entries[0]));
+    CHECK(shows(&lent_book.book, SIZE_MAX, empty_book.entries[0]));
+}
+
 /* ---- the longest recording ---- */
 
 /* Document 01's example 13 by each function that takes a bit count, and strings of 125 bits in the whole of the longest recording. */
@@ -849,6 +1089,8 @@ int main(void)
     test_scaled();
     test_accuracy();
     test_day_count();
+    test_offer();
+    test_entry();
     longest_recording(L1OC_STRAIGHT);
     longest_recording(L1OC_INVERTED);
     printf("header: %d checks, %d failed\n", checks, failures);
