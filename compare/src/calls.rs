@@ -3,7 +3,9 @@
 
 pub mod accuracy;
 pub mod day_count;
+pub mod entry;
 pub mod list;
+pub mod offer;
 pub mod read;
 pub mod read_set;
 pub mod scaled;
@@ -13,7 +15,7 @@ pub mod write_set;
 use crate::lent::Memory;
 use crate::make::complement;
 use crate::shrink::Shrink;
-use l1oc::{Answer, Phase};
+use l1oc::{Answer, Book, BookEntry, Phase, SATELLITES};
 use std::fmt::Debug;
 
 /// The numbers of the phases in C.
@@ -128,6 +130,13 @@ fn answer(result: Result<u64, Answer>) -> Answer {
         Ok(value) => Answer { number: 0, value },
         Err(refusal) => refusal,
     }
+}
+
+/// The entries of a book that are not all 0, each with its satellite.
+fn entries(book: &Book) -> String {
+    let places = (0..SATELLITES).filter(|place| book.entries[*place] != BookEntry::EMPTY);
+    let entries = places.map(|place| format!("\n  {}: {:?}", place + 1, book.entries[place]));
+    entries.collect()
 }
 
 fn hex(bytes: &[u8]) -> String {

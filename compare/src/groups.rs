@@ -1,5 +1,6 @@
 //! The groups of cases, in the order they run.
 
+mod books;
 mod bursts;
 mod counts;
 mod examples;
@@ -67,4 +68,10 @@ pub const ALL: &[Group] = &[
     ("raw bits of inverted strings", phases::raw),
     ("numbers that are neither phase", phases::numbers),
     ("inverted strings written back", phases::written_back),
+    ("refusals of offering together", refusals::offering),
+    ("every type and satellite offered", books::offered),
+    ("every pair of days offered", books::pairs),
+    ("pairs of ages on one day", books::ages),
+    ("offers in turn to one book", books::sequences),
+    ("books of any bytes", books::any),
 ];

@@ -1,7 +1,9 @@
 //! Lent memory between guards, which must stay as they are.
 
 use crate::calls::Side;
+use l1oc::{Book, SATELLITES};
 use std::any::type_name;
+use std::array;
 use std::fmt::Debug;
 use std::ops::{Deref, DerefMut};
 
@@ -43,6 +45,45 @@ impl<T> DerefMut for Lent<T> {
     }
 }
 
+/// A lent book between guards; as a book it is what is lent.
+#[derive(PartialEq)]
+pub struct LentBook(Box<Guarded>);
+
+/// The guards are numbers, so the book begins where a number may.
+#[repr(C)]
+#[derive(PartialEq)]
+struct Guarded {
+    before: [u64; GUARD],
+    book: Book,
+    after: [u64; GUARD],
+}
+
+impl LentBook {
+    /// A copy of the book, between guards that are neither all 0 nor all 1.
+    pub fn new(book: &Book) -> Self {
+        let guard = |place: usize| 0xABCD_EF01_2345_6789 + place as u64;
+        LentBook(Box::new(Guarded {
+            before: array::from_fn(guard),
+            book: book.clone(),
+            after: array::from_fn(|place| guard(place + GUARD)),
+        }))
+    }
+}
+
+impl Deref for LentBook {
+    type Target = Book;
+
+    fn deref(&self) -> &Book {
+        &self.0.book
+    }
+}
+
+impl DerefMut for LentBook {
+    fn deref_mut(&mut self) -> &mut Book {
+        &mut self.0.book
+    }
+}
+
 /// An entry of lent memory.
 pub trait Entry: Copy + PartialEq + Debug {
     /// What stands for it where the recording is in opposite phase.
@@ -63,7 +104,7 @@ impl Entry for u32 {
     }
 }
 
-/// All that a call is lent: nothing, one piece of memory, or two.
+/// All that a call is lent: nothing, one piece of memory or two, or a book.
 pub trait Memory: PartialEq {
     /// Complements the recording in it.
     fn complement(&mut self);
@@ -96,6 +137,27 @@ impl<T: Entry> Memory for Lent<T> {
                 plain[place],
                 other[place]
             );
+        }
+    }
+}
+
+impl Memory for LentBook {
+    /// There is no recording in it.
+    fn complement(&mut self) {}
+
+    /// The first entry that differs, or the guards.
+    fn print_difference(&self, side: Side, other: &Self) {
+        let (plain, given) = (&self.entries, &other.entries);
+        if let Some(place) = (0..SATELLITES).find(|place| plain[*place] != given[*place]) {
+            println!(
+                "entry {} afterwards: Plain {:?}, {side:?} {:?}",
+                place + 1,
+                plain[place],
+                given[place]
+            );
+        }
+        if (self.0.before, self.0.after) != (other.0.before, other.0.after) {
+            println!("the guards of the book afterwards: {side:?} changes them");
         }
     }
 }

@@ -1,6 +1,7 @@
 //! The second implementation: documents 000 and 01, and the requests after them, written out with
 //! texts of '0' and '1'. It is slow, and meant to be held beside the papers.
 
+pub mod book;
 pub mod check;
 pub mod report;
 pub mod set;

@@ -2,7 +2,7 @@
 
 use crate::calls::{Call, INVERTED};
 use crate::make::set;
-use l1oc::{Mark, Record, NUMBERS, RAW_BYTES};
+use l1oc::{Book, BookEntry, Mark, Record, NUMBERS, RAW_BYTES, SATELLITES};
 
 /// No more tries than this.
 const TRIES: usize = 4000;
@@ -77,6 +77,15 @@ impl<C: Call> Shrink<C> {
                 self.keep(|call| zero(part(call).0, from, size));
             }
             size /= 2;
+        }
+    }
+
+    /// Empties the entries of a book, or sets their flags to 1.
+    pub fn book(&mut self, part: fn(&mut C) -> &mut Book) {
+        for place in 0..SATELLITES {
+            if !self.keep(|call| part(call).entries[place] = BookEntry::EMPTY) {
+                self.keep(|call| part(call).entries[place].held = 1);
+            }
         }
     }
 

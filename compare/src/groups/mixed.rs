@@ -8,7 +8,7 @@ use crate::run::Run;
 use l1oc::{Mark, Record, NUMBERS, RAW_BYTES};
 
 /// A record that passes, or one spoiled in up to four places.
-fn record(random: &mut Random) -> Record {
+pub fn record(random: &mut Random) -> Record {
     let kind = make::kind(random);
     let mut record = make::record(random, kind);
     if !random.once_in(3) {

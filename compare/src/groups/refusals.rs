@@ -4,7 +4,7 @@
 use crate::make;
 use crate::plain::{self, table, LIMIT};
 use crate::run::Run;
-use l1oc::{Mark, Record, NUMBERS, RAW_BYTES};
+use l1oc::{Book, Mark, Record, NUMBERS, RAW_BYTES};
 
 /// A recording of random bits that ends with the text at its bit count, which lies above the
 /// limit (1) and above the bytes (2) where asked.
@@ -158,6 +158,39 @@ pub fn scaling(run: &mut Run) {
                 let mut record = make::record(&mut run.random, kind);
                 spoil(run, &mut record, holds);
                 run.scaled(&record, field);
+            }
+        }
+    }
+}
+
+/// Offering: 7, 8, 11, 10, then 15, to an empty entry and to one that holds a record.
+pub fn offering(run: &mut Run) {
+    for kind in [20, 20, 20, 10, 11, 12, 25, 0, 1, 2] {
+        for set in 0..16 {
+            let numbers = [7, 8, 11, 10];
+            let holds = |number| {
+                let place = numbers.iter().position(|one| *one == number);
+                place.is_some_and(|place| set >> place & 1 == 1)
+            };
+            let refusals = numbers.into_iter().filter(|number| match number {
+                8 => holds(8) && kind == 20,
+                _ => holds(*number),
+            });
+            let other = (kind != 20).then_some(15);
+            let first = refusals.chain(other).next().unwrap_or(0);
+            for _ in 0..20 {
+                let mut record = make::record(&mut run.random, kind);
+                let mut book = Book::EMPTY;
+                if run.random.once_in(2) {
+                    let entry = &mut book.entries[usize::from(record.satellite) - 1];
+                    entry.held = 1;
+                    entry.content = make::record(&mut run.random, 20);
+                }
+                spoil(run, &mut record, holds);
+                let answer = run.offer(&book, &record).answer;
+                run.require(answer.number == first as u64, || {
+                    println!("not answered {first}: {answer:?}, {record:?}");
+                });
             }
         }
     }
