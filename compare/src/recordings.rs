@@ -27,6 +27,7 @@ pub fn make(folder: &Path) -> io::Result<()> {
     }
     let [.., (_, sets)] = &recordings;
     save(folder, "inverted", &inverted(sets))?;
+    save(folder, "almanacs", &almanacs(random))?;
     // Of this one only the text is kept.
     let longer = vec![0; LIMIT / 8 + 1];
     fs::write(folder.join("refused.csv"), report(&longer))
@@ -227,6 +228,49 @@ fn sets(random: &mut Twister) -> String {
     text = make::turn(&text, 45 + 5 * 250 + 90, "1011");
     text.truncate(text.len() - 100);
     text
+}
+
+/// Almanacs that come in turn: satellite, age, day. Offered to one book, those without a word are
+/// taken.
+const ALMANACS: [(u8, u8, u16); 12] = [
+    (24, 1, 700),
+    (3, 2, 1460),
+    (24, 0, 698), // passed over, 1459 days later
+    (63, 5, 700),
+    (11, 3, 1),
+    (3, 1, 2),
+    (11, 3, 1),   // passed over, of equal day and age
+    (3, 0, 1461), // passed over, 1459 days later
+    (63, 4, 700),
+    (24, 0, 1430),
+    (24, 0, 700), // passed over, 731 days later
+    (24, 63, 1431),
+];
+
+/// A string of type 20 of an orbit, with this satellite, age and day.
+fn almanac(
+    random: &mut Twister,
+    orbit: &str,
+    (satellite, age, day): (u8, u8, u16),
+    time: u64,
+) -> String {
+    let mut text = information(random, 20);
+    text.replace_range(..2, orbit);
+    text.replace_range(8..25, &format!("{age:06b}{day:011b}"));
+    string(service(20, satellite, time), &text)
+}
+
+/// Almanacs with other strings between, then one that is damaged and one of another orbit.
+fn almanacs(random: &mut Twister) -> String {
+    let mut text = random_bits(random, 21);
+    for (time, one) in (100..).zip(ALMANACS) {
+        text += &almanac(random, "00", one, time);
+        if time % 4 == 0 {
+            text += &any(random, 10);
+        }
+    }
+    text += &make::turn(&almanac(random, "00", (11, 2, 1), 112), 90, "101");
+    text + &almanac(random, "01", (63, 0, 700), 113)
 }
 
 /// The recording in opposite phase, with what fills its last byte.
