@@ -210,6 +210,7 @@ struct l1oc_book_entry {
  * `= {}`).
  *
  * Every book has an answer, whatever its bytes are: any record may be held, with any day and age. Every byte of a book is one of an entry.
+ * A call changes the book where it lies and copies no more than a record: it needs at most 1 KiB of stack.
  */
 struct l1oc_book {
     struct l1oc_book_entry entries[L1OC_SATELLITES]; /* entries[j - 1]: that of satellite j */
