@@ -16,9 +16,10 @@ use Rattle.format.specs.declared.Refusal.{Refusal}
 use Rattle.format.specs.Answers.{outcome_code, taken_code}
 use Rattle.format.specs.Tests.{is_passed, giving, Answer, answer_of, given_or}
 use Rattle.format.proofs.Numbered.{giving-returned, tells_then, tells_when, record_tells}
+use Rattle.format.specs.Types.{last_satellite}
 use Rattle.almanac.specs.declared.Book.{Book}
 use Rattle.almanac.specs.declared.Entry.{Entry}
-use Rattle.almanac.specs.Book.{satellites, is_empty, empty_entry, holding, supersedes, takes, entry_at, entry}
+use Rattle.almanac.specs.Book.{is_empty, empty_entry, holding, supersedes, takes, entry_at, entry}
 use Rattle.almanac.specs.Book.{offer_tests, offering, offer_returned, with_held, book_after}
 use Rattle.almanac.specs.Offers.{book_of, HoldsAfter, Supersedes, Taken, OfferPromise}
 use Rattle.almanac.proofs.Books.{Where, inside, outside, where_is, passed, read, entry_in, refused, own, other}
@@ -63,7 +64,7 @@ module _ (b : Book) (r : Record) where
       rw t.unrefused
       (ap Ok (takes_by (is_empty (entry_at b r.satellite)) (entry_at b r.satellite).content r (λ held g. t.newer held (f ∙ g))))
 
-  module _ (full_book : length b.entries ≡ satellites) where
+  module _ (full_book : length b.entries ≡ last_satellite) where
     now_held : offering b r ≡ Ok true → entry (book_after b r) r.satellite ≡ Some r
     now_held e =
         let p = is_taken e in
@@ -104,7 +105,7 @@ module _ (b : Book) (r : Record) where
   one_after offers e = ap (λ (x : Book). book_after x r) e
 
 -- what offering promises follows from the answer and the book
-pub promised : (b : Book) (r : Record) → length b.entries ≡ satellites → (answer : Result Bool Refusal) (after : Book)
+pub promised : (b : Book) (r : Record) → length b.entries ≡ last_satellite → (answer : Result Bool Refusal) (after : Book)
     → answer ≡ offering b r → after ≡ book_after b r → OfferPromise b r answer after
 promised b r l answer after e f =
     record {
@@ -120,7 +121,7 @@ promised b r l answer after e f =
     }
 
 -- ---- as the code offers
-module _ (b : Book) (r : Record) (l : length b.entries ≡ satellites) where
+module _ (b : Book) (r : Record) (l : length b.entries ≡ last_satellite) where
   refusal : (x : Refusal) → offer_tests r ≡ Err x → Err x ≡ offering b r
   unfolding offering
   refusal x e = rw e refl

@@ -17,16 +17,17 @@ use Rattle.format.specs.Records.{record_tests, field_tests}
 use Rattle.format.specs.Tests.{Answer, is_passed, given_or}
 use Rattle.format.proofs.Order.{then_pass}
 use Rattle.format.proofs.Writing.{ranged}
+use Rattle.format.specs.Types.{last_satellite}
 use Rattle.almanac.specs.declared.Book.{Book}
 use Rattle.almanac.specs.declared.Entry.{Entry}
-use Rattle.almanac.specs.Book.{satellites, is_empty, empty_entry, holding, takes, entry_at, entry, offer_tests, offering, with_held, book_after}
+use Rattle.almanac.specs.Book.{is_empty, empty_entry, holding, takes, entry_at, entry, offer_tests, offering, with_held, book_after}
 use Rattle.almanac.specs.Offers.{book_of, came}
 use Rattle.almanac.proofs.Entries.{entry_after, entry_of}
 
 -- what passed tests say of the satellite
 pub record InBook (satellite : ℕ) : Type 0 where
   pub least : 1 ≤ satellite
-  pub most : satellite ≤ satellites
+  pub most : satellite ≤ last_satellite
 
 pub passed : (r : Record) → offer_tests r ≡ Ok tt → InBook r.satellite
 unfolding offer_tests record_tests
@@ -49,13 +50,13 @@ pub entry_below : (b : Book) (j : ℕ) → j < 1 → entry b j ≡ None
 unfolding entry
 entry_below b j h = rw (lt-leb 1 j h) refl
 
-pub entry_above : (b : Book) (j : ℕ) → satellites < j → entry b j ≡ None
+pub entry_above : (b : Book) (j : ℕ) → last_satellite < j → entry b j ≡ None
 unfolding entry
-entry_above b j h = rw (le-leb 1 j (omega arith), lt-leb j satellites h) refl
+entry_above b j h = rw (le-leb 1 j (omega arith), lt-leb j last_satellite h) refl
 
 pub entry_in : (b : Book) (j : ℕ) → InBook j → entry b j ≡ read (entry_at b j)
 unfolding entry
-entry_in b j i = rw (le-leb 1 j i.least, le-leb j satellites i.most) refl
+entry_in b j i = rw (le-leb 1 j i.least, le-leb j last_satellite i.most) refl
 
 -- a number in the book, or outside
 pub data Where (j : ℕ) : Type 0 where
@@ -63,9 +64,9 @@ pub data Where (j : ℕ) : Type 0 where
   outside : ((b : Book) → entry b j ≡ None) → Where j
 
 pub where_is : (j : ℕ) → Where j
-where_is j = go (dec_lt j 1) (dec_lt satellites j)
+where_is j = go (dec_lt j 1) (dec_lt last_satellite j)
   where
-    go : Dec (j < 1) → Dec (satellites < j) → Where j
+    go : Dec (j < 1) → Dec (last_satellite < j) → Where j
     go (yes l) m = outside (λ b. entry_below b j l)
     go (no l) (yes m) = outside (λ b. entry_above b j m)
     go (no l) (no m) = inside (record { least = omega arith; most = omega arith })
@@ -93,7 +94,7 @@ module _ (b : Book) (r : Record) where
     i : InBook r.satellite
     i = passed r e
 
-    pub own : length b.entries ≡ satellites → entry_at (book_after b r) r.satellite ≡ entry_after (entry_at b r.satellite) r
+    pub own : length b.entries ≡ last_satellite → entry_at (book_after b r) r.satellite ≡ entry_after (entry_at b r.satellite) r
     own l = ap (λ (x : Book). entry_at x r.satellite) (after_passed e) ∙ go (takes (entry_at b r.satellite) r)
       where
         go : (t : Bool)
@@ -110,9 +111,9 @@ module _ (b : Book) (r : Record) where
         go false = refl
 
 -- ---- any offers
-pub full : (offers : List Record) → length (book_of offers).entries ≡ satellites
+pub full : (offers : List Record) → length (book_of offers).entries ≡ last_satellite
 unfolding book_of
-full [] = length-replicate satellites empty_entry
+full [] = length-replicate last_satellite empty_entry
 full (r ∷ before) = size (book_of before) r ∙ full before
 
 -- an entry after any offers is that after its satellite's records alone
@@ -149,5 +150,5 @@ module _ (j : ℕ) (in_book : InBook j) where
 
   pub entry_is : (offers : List Record) → entry_at (book_of offers) j ≡ entry_of (came j offers)
   unfolding book_of entry_of Is
-  entry_is [] = get_or-replicate satellites (j - 1) empty_entry empty_entry (omega (arith, in_book.least, in_book.most))
+  entry_is [] = get_or-replicate last_satellite (j - 1) empty_entry empty_entry (omega (arith, in_book.least, in_book.most))
   entry_is (r ∷ before) = one_more r before (entry_is before)

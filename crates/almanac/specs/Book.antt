@@ -10,6 +10,7 @@ use Rattle.format.specs.declared.Refusal.{Refusal}
 use Rattle.format.specs.declared.Refusal.TheVariants.{NotAlmanac}
 use Rattle.bits.specs.Bits.{bit}
 use Rattle.format.specs.Records.{blank, record_tests, record_lines}
+use Rattle.format.specs.Types.{last_satellite}
 use Rattle.format.specs.Tests.{Answer, when, ◌then◌, given_or, giving, Line, on, returned}
 
 -- ---- two records of one satellite
@@ -44,11 +45,8 @@ empty_entry = record { held = 0; content = blank }
 abbrev pub holding : Record → Entry
 holding r = record { held = 1; content = r }
 
-abbrev pub satellites : ℕ
-satellites = 63
-
 abbrev pub empty_book : Book
-empty_book = record { entries = replicate satellites empty_entry }
+empty_book = record { entries = replicate last_satellite empty_entry }
 
 -- The entry of a satellite, 1 to 63: the first is that of satellite 1.
 abbrev pub entry_at : Book → ℕ → Entry
@@ -57,7 +55,7 @@ entry_at book satellite = get_or book.entries (satellite - 1) empty_entry
 -- What the book holds for a satellite; nothing for a number outside 1 to 63.
 unfoldable pub entry : Book → ℕ → Option Record
 entry book satellite =
-    cond (leb 1 satellite && leb satellite satellites && not (is_empty (entry_at book satellite)))
+    cond (leb 1 satellite && leb satellite last_satellite && not (is_empty (entry_at book satellite)))
     (Some (entry_at book satellite).content)
     None
 

@@ -11,7 +11,7 @@ ghost use Rattle.format.specs.Tests.{when};
 use format::{Record, Refusal};
 
 // The satellites that a book has an entry for, from 1 on.
-pub const SATELLITES: usize = 63;
+pub const SATELLITES: usize = format::LAST_SATELLITE as usize;
 
 // The places of the age EA, field 12, and of the day NA, field 13.
 const AGE: usize = 2;

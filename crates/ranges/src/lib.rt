@@ -70,7 +70,7 @@ fn service_outside(r: &Record) -> usize
     let found = outside(5, 0, r.call, 15, found);
     let found = outside(4, 0, r.validity, 1, found);
     let found = outside(3, 0, r.signal, 1, found);
-    let found = outside(2, 1, r.satellite, 63, found);
+    let found = outside(2, 1, r.satellite, format::LAST_SATELLITE, found);
     outside(1, 0, r.kind, 63, found)
 }
 
@@ -121,7 +121,7 @@ pub fn decoded_tests(r: &Record) -> Result<(), Refusal>
     requires { OfBits r.now }
     ensures { result ≡ field_tests r.now }
 {
-    within(2, 1, r.satellite, 63)?;
+    within(2, 1, r.satellite, format::LAST_SATELLITE)?;
     within(9, 0, r.time, format::LAST_TIME)?;
     narrow_ranges(r)?;
     orbit_test(r.kind, r.numbers[ORBIT])

@@ -4,7 +4,8 @@ use native.Mathlib.Omega.{arith}
 use borrow.Author.Rules.{rules}
 use Prim.Native.Nat.{ℕ}
 use lib.ListN.{length, get_or}
-use Rattle.almanac.specs.Book.{satellites, empty_entry}
+use Rattle.format.specs.Types.{last_satellite}
+use Rattle.almanac.specs.Book.{empty_entry}
 use Rattle.almanac.proofs.Books.{read, read_empty, read_held, entry_below, entry_above, entry_in}
 use Rattle.almanac.proofs.Book.entry.Goals as goal
 
@@ -13,14 +14,14 @@ returns-in_err-checked_sub c = c.from_residual.ensures ∙ sym (entry_below _ _ 
 
 pub returns-in_err-entry : goal.returns-in_err-entry
 returns-in_err-entry c =
-    let l : length c.args.self.now.entries ≡ satellites = search rules in
+    let l : length c.args.self.now.entries ≡ last_satellite = search rules in
     let k = c.in_ok-checked_sub.ensures in
     c.from_residual-in_err-entry.ensures
     ∙ sym (entry_above _ _ (omega (arith, l, k.0, k.1, c.in_err-entry.ensures.lookup.3)))
 
 pub returns-then-entry-eq0 : goal.returns-then-entry-eq0
 returns-then-entry-eq0 c =
-    let l : length c.args.self.now.entries ≡ satellites = search rules in
+    let l : length c.args.self.now.entries ≡ last_satellite = search rules in
     let k = c.in_ok-checked_sub.ensures in
     let s = c.in_ok-entry.ensures.lookup.3 in
     let e = s.1 empty_entry ∙ ap (λ (i : ℕ). get_or c.args.self.now.entries i empty_entry) k.1 in
@@ -29,7 +30,7 @@ returns-then-entry-eq0 c =
 
 pub returns-else-entry-eq0 : goal.returns-else-entry-eq0
 returns-else-entry-eq0 c =
-    let l : length c.args.self.now.entries ≡ satellites = search rules in
+    let l : length c.args.self.now.entries ≡ last_satellite = search rules in
     let k = c.in_ok-checked_sub.ensures in
     let s = c.in_ok-entry.ensures.lookup.3 in
     let e = s.1 empty_entry ∙ ap (λ (i : ℕ). get_or c.args.self.now.entries i empty_entry) k.1 in
