@@ -15,8 +15,8 @@ use Rattle.format.specs.declared.Refusal.TheVariants.{NotAlmanac}
 use Rattle.format.specs.declared.Refusal.{Refusal}
 use Rattle.format.specs.Answers.{outcome_code, taken_code}
 use Rattle.format.specs.Tests.{is_passed, giving, Answer, answer_of, given_or}
-use Rattle.format.proofs.Numbered.{giving-returned, tells_then, tells_when, record_tells}
 use Rattle.format.specs.Types.{last_satellite}
+use Rattle.format.proofs.Numbered.{giving-returned, tells_then, tells_when, record_tells}
 use Rattle.almanac.specs.declared.Book.{Book}
 use Rattle.almanac.specs.declared.Entry.{Entry}
 use Rattle.almanac.specs.Book.{is_empty, empty_entry, holding, supersedes, takes, entry_at, entry}
@@ -75,8 +75,7 @@ module _ (b : Book) (r : Record) where
     unfolding book_after
     unchanged n = go (offering b r) refl
       where
-        go : (x : Result Bool Refusal) → offering b r ≡ x
-            → cond (given_or false x) (with_held b r) b ≡ b
+        go : (x : Result Bool Refusal) → offering b r ≡ x → cond (given_or false x) (with_held b r) b ≡ b
         go (Ok true) e = absurd (n e)
         go (Ok false) e = refl
         go (Err x) e = refl

@@ -8,16 +8,16 @@ use Prim.Native.Nat.{ℕ, ◌-◌, ◌≤◌, ◌<◌}
 use native.Mathlib.Decide.{dec_lt}
 use native.Mathlib.Omega.{arith}
 use lib.Dec.{eqb}
-use lib.ListN.{length, length-set, length-replicate, get_or-replicate}
+use lib.ListN.{length, get_or, length-set, length-replicate, get_or-replicate}
 use Rattle.std.proofs.lemmas.List.{get_or-set_same, get_or-set_other}
 use borrow.Author.Tests.{eqb-true, eqb-false, le-leb, lt-leb, ne_eqb}
 use Rattle.format.specs.declared.Record.{Record}
 use Rattle.format.specs.declared.Refusal.{Refusal}
 use Rattle.format.specs.Records.{record_tests, field_tests}
 use Rattle.format.specs.Tests.{Answer, is_passed, given_or}
+use Rattle.format.specs.Types.{last_satellite}
 use Rattle.format.proofs.Order.{then_pass}
 use Rattle.format.proofs.Writing.{ranged}
-use Rattle.format.specs.Types.{last_satellite}
 use Rattle.almanac.specs.declared.Book.{Book}
 use Rattle.almanac.specs.declared.Entry.{Entry}
 use Rattle.almanac.specs.Book.{is_empty, empty_entry, holding, takes, entry_at, entry, offer_tests, offering, with_held, book_after}
@@ -58,6 +58,13 @@ pub entry_in : (b : Book) (j : ℕ) → InBook j → entry b j ≡ read (entry_a
 unfolding entry
 entry_in b j i = rw (le-leb 1 j i.least, le-leb j last_satellite i.most) refl
 
+-- by the entry that stands at a place
+pub entry_there : (b : Book) (j i : ℕ) (e : Entry) → length b.entries ≡ last_satellite → (1 ≤ j) × (i ≡ j - 1)
+    → (i < length b.entries) × ((d : Entry) → e ≡ get_or b.entries i d) → entry b j ≡ read e
+entry_there b j i e l k s =
+    entry_in b j (record { least = k.0; most = omega (arith, l, k.1, s.0) })
+    ∙ ap read (sym (s.1 empty_entry ∙ ap (λ (n : ℕ). get_or b.entries n empty_entry) k.1))
+
 -- a number in the book, or outside
 pub data Where (j : ℕ) : Type 0 where
   inside : InBook j → Where j
@@ -77,8 +84,7 @@ module _ (b : Book) (r : Record) where
   unfolding book_after offering
   refused x e = rw e refl
 
-  pub after_passed : offer_tests r ≡ Ok tt
-      → book_after b r ≡ cond (takes (entry_at b r.satellite) r) (with_held b r) b
+  pub after_passed : offer_tests r ≡ Ok tt → book_after b r ≡ cond (takes (entry_at b r.satellite) r) (with_held b r) b
   unfolding book_after offering
   after_passed e = rw e refl
 
@@ -97,9 +103,7 @@ module _ (b : Book) (r : Record) where
     pub own : length b.entries ≡ last_satellite → entry_at (book_after b r) r.satellite ≡ entry_after (entry_at b r.satellite) r
     own l = ap (λ (x : Book). entry_at x r.satellite) (after_passed e) ∙ go (takes (entry_at b r.satellite) r)
       where
-        go : (t : Bool)
-            → entry_at (cond t (with_held b r) b) r.satellite
-            ≡ cond t (holding r) (entry_at b r.satellite)
+        go : (t : Bool) → entry_at (cond t (with_held b r) b) r.satellite ≡ cond t (holding r) (entry_at b r.satellite)
         go true = get_or-set_same b.entries (r.satellite - 1) (holding r) empty_entry (omega (arith, l, i.least, i.most))
         go false = refl
 

@@ -23,10 +23,10 @@ shifted z k m e = ap unsigned_abs (int_rem_euclid_is z (pos interval_days) inter
 
 -- of a difference, by what is left of each
 pub left_minus : (a b : ℤ) → left (a -ℤ b) ≡ (left a + (interval_days - left b)) % interval_days
-left_minus (pos a) (pos b) = omega (arith, shifted (pos a -ℤ pos b) b (a + b * 1460) (omega (arith, ints)))
+left_minus (pos a) (pos b) = omega (arith, shifted (pos a -ℤ pos b) b (a + b * (interval_days - 1)) (omega (arith, ints)))
 left_minus (pos a) (negsuc b) = omega arith
-left_minus (negsuc a) (pos b) = omega (arith, shifted (negsuc a -ℤ pos b) (a + b + 1) ((a + b + 1) * 1460) (omega (arith, ints)))
-left_minus (negsuc a) (negsuc b) = omega (arith, shifted (negsuc a -ℤ negsuc b) a (b + a * 1460) (omega (arith, ints)))
+left_minus (negsuc a) (pos b) = omega (arith, shifted (negsuc a -ℤ pos b) (a + b + 1) ((a + b + 1) * (interval_days - 1)) (omega (arith, ints)))
+left_minus (negsuc a) (negsuc b) = omega (arith, shifted (negsuc a -ℤ negsuc b) a (b + a * (interval_days - 1)) (omega (arith, ints)))
 
 differ : (f a b : ℤ) → b -ℤ a ≡ (b -ℤ f) -ℤ (a -ℤ f)
 differ f a b = omega (arith, ints)

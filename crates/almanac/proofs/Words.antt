@@ -21,15 +21,18 @@ either false b e = inr e
 
 -- the test and its words, of how many days later the new record is, and whether its age wins
 module _ (days : ℕ) (w : Bool) where
-  says : (is_later days || eqb days 0 && w) ≡ true → ((1 ≤ days) × (days ≤ most_later)) ⊎ ((days ≡ 0) × (w ≡ true))
+  abbrev Says : Type 0
+  Says = ((1 ≤ days) × (days ≤ most_later)) ⊎ ((days ≡ 0) × (w ≡ true))
+
+  says : (is_later days || eqb days 0 && w) ≡ true → Says
   says e = pick (either (is_later days) (eqb days 0 && w) e)
     where
-      pick : (is_later days ≡ true) ⊎ ((eqb days 0 && w) ≡ true) → ((1 ≤ days) × (days ≤ most_later)) ⊎ ((days ≡ 0) × (w ≡ true))
+      pick : (is_later days ≡ true) ⊎ ((eqb days 0 && w) ≡ true) → Says
       pick (inl p) =
           let q = (and-eq-true_iff (leb 1 days) (leb days most_later)).0 p in inl (leb-true 1 days q.0, leb-true days most_later q.1)
       pick (inr p) = let q = (and-eq-true_iff (eqb days 0) w).0 p in inr (eqb-true days 0 q.0, q.1)
 
-  tells : ((1 ≤ days) × (days ≤ most_later)) ⊎ ((days ≡ 0) × (w ≡ true)) → (is_later days || eqb days 0 && w) ≡ true
+  tells : Says → (is_later days || eqb days 0 && w) ≡ true
   tells (inl p) = rw (le-leb 1 days p.0, le-leb days most_later p.1) refl
   tells (inr p) = rw (p.0, p.1) refl
 

@@ -2,16 +2,16 @@
 use Rattle.std.specs.Prelude.{Result, Option, Some, None}
 use Rattle.std.specs.Prelude.{Bool, false, cond, not, ◌&&◌, ◌||◌, List, [], ◌∷◌, ◌++◌, ℕ, ◌-◌, eqb, leb, get_or, set, replicate}
 use Rattle.std.specs.Prelude.{ℤ, pos, int_lt}
-use Rattle.almanac.specs.declared.Book.{Book}
-use Rattle.almanac.specs.declared.Entry.{Entry}
-use Rattle.almanac.specs.Days.{days_after, is_later}
+use Rattle.bits.specs.Bits.{bit}
 use Rattle.format.specs.declared.Record.{Record}
 use Rattle.format.specs.declared.Refusal.{Refusal}
 use Rattle.format.specs.declared.Refusal.TheVariants.{NotAlmanac}
-use Rattle.bits.specs.Bits.{bit}
 use Rattle.format.specs.Records.{blank, record_tests, record_lines}
-use Rattle.format.specs.Types.{last_satellite}
 use Rattle.format.specs.Tests.{Answer, when, ◌then◌, given_or, giving, Line, on, returned}
+use Rattle.format.specs.Types.{last_satellite}
+use Rattle.almanac.specs.declared.Book.{Book}
+use Rattle.almanac.specs.declared.Entry.{Entry}
+use Rattle.almanac.specs.Days.{days_after, is_later}
 
 -- ---- two records of one satellite
 

@@ -3,13 +3,13 @@ use Rattle.std.specs.Prelude.{Ok, Result, Some, None}
 use Rattle.std.specs.Prelude.{◌≡◌, Bool, true, ◌&&◌, ◌⊎◌, ◌↔◌, List, [], ◌∷◌, ◌++◌, ℕ, ◌<◌, ◌≤◌, eqb, length}
 use Rattle.std.specs.Prelude.{ℤ, ◌≤ℤ◌}
 use Rattle.std.specs.List.{All, filter}
+use Rattle.format.specs.declared.Record.{Record}
+use Rattle.format.specs.declared.Refusal.{Refusal}
+use Rattle.format.specs.Answers.{taken_code}
+use Rattle.format.specs.Tests.{is_passed}
 use Rattle.almanac.specs.declared.Book.{Book}
 use Rattle.almanac.specs.Days.{days_after, most_later, row_days}
 use Rattle.almanac.specs.Book.{age_of, day_of, wins, empty_book, entry, offer_tests, offering, offer_returned, book_after}
-use Rattle.format.specs.Answers.{taken_code}
-use Rattle.format.specs.declared.Record.{Record}
-use Rattle.format.specs.declared.Refusal.{Refusal}
-use Rattle.format.specs.Tests.{is_passed}
 
 -- ---- offers one after another
 

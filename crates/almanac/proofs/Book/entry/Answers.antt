@@ -1,12 +1,10 @@
 -- `almanac::Book::entry`: nothing outside the book's numbers, else what the entry gives. Assumes nothing.
-use mathlib.Core.Path.{◌≡◌, sym, ap, ◌∙◌}
+use mathlib.Core.Path.{◌≡◌, sym, ◌∙◌}
 use native.Mathlib.Omega.{arith}
 use borrow.Author.Rules.{rules}
-use Prim.Native.Nat.{ℕ}
-use lib.ListN.{length, get_or}
+use lib.ListN.{length}
 use Rattle.format.specs.Types.{last_satellite}
-use Rattle.almanac.specs.Book.{empty_entry}
-use Rattle.almanac.proofs.Books.{read, read_empty, read_held, entry_below, entry_above, entry_in}
+use Rattle.almanac.proofs.Books.{read_empty, read_held, entry_below, entry_above, entry_there}
 use Rattle.almanac.proofs.Book.entry.Goals as goal
 
 pub returns-in_err-checked_sub : goal.returns-in_err-checked_sub
@@ -21,18 +19,10 @@ returns-in_err-entry c =
 
 pub returns-then-entry-eq0 : goal.returns-then-entry-eq0
 returns-then-entry-eq0 c =
-    let l : length c.args.self.now.entries ≡ last_satellite = search rules in
-    let k = c.in_ok-checked_sub.ensures in
-    let s = c.in_ok-entry.ensures.lookup.3 in
-    let e = s.1 empty_entry ∙ ap (λ (i : ℕ). get_or c.args.self.now.entries i empty_entry) k.1 in
-    sym (entry_in c.args.self.now c.args.satellite (record { least = k.0; most = omega (arith, l, k.1, s.0) })
-    ∙ ap read (sym e) ∙ read_empty c.in_ok-entry.entry.now c.if-entry-eq0.true)
+    sym (entry_there c.args.self.now c.args.satellite _ _ (search rules) c.in_ok-checked_sub.ensures c.in_ok-entry.ensures.lookup.3
+    ∙ read_empty c.in_ok-entry.entry.now c.if-entry-eq0.true)
 
 pub returns-else-entry-eq0 : goal.returns-else-entry-eq0
 returns-else-entry-eq0 c =
-    let l : length c.args.self.now.entries ≡ last_satellite = search rules in
-    let k = c.in_ok-checked_sub.ensures in
-    let s = c.in_ok-entry.ensures.lookup.3 in
-    let e = s.1 empty_entry ∙ ap (λ (i : ℕ). get_or c.args.self.now.entries i empty_entry) k.1 in
-    sym (entry_in c.args.self.now c.args.satellite (record { least = k.0; most = omega (arith, l, k.1, s.0) })
-    ∙ ap read (sym e) ∙ read_held c.in_ok-entry.entry.now c.if-entry-eq0.false)
+    sym (entry_there c.args.self.now c.args.satellite _ _ (search rules) c.in_ok-checked_sub.ensures c.in_ok-entry.ensures.lookup.3
+    ∙ read_held c.in_ok-entry.entry.now c.if-entry-eq0.false)
